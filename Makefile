@@ -22,8 +22,10 @@ travel:
 test:
 	./gate
 
-install: build
-	service/deploy/install "$(DESTDIR)" "$(PREFIX)"
+# It builds the program first where that isn't built, or isn't told by PROGRAM.
+install:
+	@[ -n "$(PROGRAM)" ] || ./build --is-built || ./build
+	PROGRAM="$(PROGRAM)" service/deploy/install "$(DESTDIR)" "$(PREFIX)"
 
 # Tries every wrong body, or with CRATES="A B" those of these crates.
 edits:

@@ -18,6 +18,7 @@ import {
   State,
   Unreachable,
   Work,
+  WorkAhead,
   Worker,
   settle,
 } from "../node/src/index.mjs";
@@ -234,6 +235,11 @@ async function playFence() {
     }
     const kept = new Work("m", "3.x", false, "order_2", "keep", 3, 1);
     await assert.rejects(async () => shop.under(10, () => shop.prepare(kept)), Refused);
+    const settled = new Work("m", "2.x", false, "", "take", 0, 0), other = new Work("m", "2.x", false, "order_9", "take", 3, 1);
+    await shop.under(11, () => shop.prepare(work));
+    for (const call of ["prepare", "commit", "takeBack"]) await assert.rejects(async () => shop.under(12, () => shop[call](other)), WorkAhead);
+    await shop.under(12, () => shop.commit(settled));
+    assert.deepEqual([...(await shop.found("m"))], [["2.x", State.COMMITTED]], "what is of another process");
     database.close();
   } finally {
     rmSync(folder, { recursive: true, force: true });

@@ -13,6 +13,7 @@ import tempfile
 import threading
 import time
 from concurrent.futures import ThreadPoolExecutor
+from dataclasses import replace
 
 HERE = os.path.dirname(os.path.realpath(__file__))
 sys.path[:0] = [f"{HERE}/../python", HERE]
@@ -20,7 +21,7 @@ sys.dont_write_bytecode = True
 
 import sihtolem
 from memory import Memory
-from sihtolem import Action, Answer, Block, Fenced, Held, Outbox, Overtaken, Scheduler, Sqlite, State, Work, settle
+from sihtolem import Action, Answer, Block, Fenced, Held, Outbox, Overtaken, Scheduler, Sqlite, State, Work, WorkAhead, settle
 from sihtolem.dialogue import read_piece
 from sihtolem.opening import answer_of
 from sihtolem.report import conflict, operations_of, read_report
@@ -236,7 +237,7 @@ def play_waits(scenario):
 
 
 def play_fence():
-    """What comes under a lease that another has overtaken changes nothing, also behind a take back."""
+    """What comes under a lease that another has overtaken changes nothing, also behind a take back. Nor does what asks for work of another process."""
     work = Work("m", "2.x", False, "order_1", "take", 3, 1)
     with tempfile.TemporaryDirectory() as folder:
         shop = Fenced(f"{folder}/shop.db", {"take": Held()})
@@ -250,6 +251,18 @@ def play_fence():
                 sys.exit("a lease that is overtaken does work")
             except Overtaken:
                 check("what is prepared", shop.found("m"), {})
+        with shop.under(11):
+            shop.prepare(work)
+        for do in (shop.prepare, shop.commit, shop.take_back):
+            try:
+                with shop.under(12):
+                    do(replace(work, process="order_9"))
+                sys.exit("work of another process is taken for its own")
+            except WorkAhead:
+                pass
+        with shop.under(12):
+            shop.commit(replace(work, process="", key=0, amount=0))
+        check("what is of another process", shop.found("m"), {"2.x": State.COMMITTED})
         shop.close()
 
 

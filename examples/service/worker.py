@@ -9,7 +9,6 @@ import logging
 import os
 import signal
 import sys
-import threading
 
 from shop_workers import opened
 
@@ -19,12 +18,12 @@ from sihtolem import Worker
 def main():
     logging.basicConfig(level=logging.WARNING, format="%(threadName)s %(message)s")
     address, folder, name, threads, seconds = [*sys.argv[1:], *["4", "0"][len(sys.argv) - 4 :]]
-    stopped = threading.Event()
-    for number in (signal.SIGTERM, signal.SIGINT):
-        signal.signal(number, lambda *_: stopped.set())
+    # Each thread leaves these signals to the wait below, however many come at once.
+    stops = {signal.SIGTERM, signal.SIGINT}
+    signal.pthread_sigmask(signal.SIG_BLOCK, stops)
     databases = opened(folder, float(seconds))
     worker = Worker(address, databases, name=name, token=os.environ.get("SIHTOLEM_TOKEN", ""), threads=int(threads))
-    stopped.wait()
+    signal.sigwait(stops)
     worker.close()
 
 

@@ -2,6 +2,7 @@
 import dataclasses
 import ipaddress
 import os
+import re
 import tomllib
 import typing
 from dataclasses import dataclass, field
@@ -43,6 +44,7 @@ class Configuration:
     worker_operations: tuple[str, ...] = ()
     participants: tuple[str, ...] = ()
     carry_over: tuple[str, ...] = ()
+    mark: str = ""
     processes_in_files: int = 4000
     most_active: int = 64
     lease_seconds: float = 30.0
@@ -97,6 +99,8 @@ def checked(made: Configuration) -> Configuration:
             raise ConfigurationError(f"token {token.name!r} may {sorted(unknown)}; there is {', '.join(PERMISSIONS)}")
     if not made.is_local and not made.tokens:
         raise ConfigurationError("nothing listens beyond this machine without a token: list `tokens`, or listen on 127.0.0.1")
+    if not re.fullmatch(r"[a-z0-9_]{0,32}", made.mark):
+        raise ConfigurationError("`mark` has up to 32 of a-z, 0-9 and _")
     if not 1 <= made.most_active <= 256 or made.processes_in_files < 1 or made.lease_seconds <= 0:
         raise ConfigurationError("`most_active` is from 1 to 256; `processes_in_files` and `lease_seconds` are above 0")
     return made

@@ -17,7 +17,7 @@ def spelled_time(seconds: float) -> str:
 
 
 class Events:
-    """Any thread may publish; tasks of the event loop follow. What is `live` alone isn't logged."""
+    """Any thread may publish; tasks of the event loop follow."""
 
     def __init__(self, log: TextIO = sys.stdout):
         self._log, self._lock = log, threading.Lock()
@@ -25,13 +25,12 @@ class Events:
         self._followers: list[tuple[asyncio.AbstractEventLoop, asyncio.Event]] = []
         self.last = 0
 
-    def publish(self, event: str, *, live: bool = False, **fields: Any) -> None:
+    def publish(self, event: str, **fields: Any) -> None:
         with self._lock:
             self.last += 1
             told = {"id": self.last, "time": spelled_time(time.time()), "event": event, **fields}
             self._kept.append(told)
-            if not live:
-                self._write(told)
+            self._write(told)
             followers = list(self._followers)
         for loop, wake in followers:
             if not loop.is_closed():

@@ -32,10 +32,13 @@ class Guard:
         self._configuration, self._buckets = configuration, dict[str, Bucket]()
 
     def admit(self, request: web.Request, permission: str) -> None:
-        """Raises where this request may not be made, or comes too fast. Reading wants a token only where the service can be reached from beyond
-        this machine."""
+        """Raises where this request may not be made, or comes too fast: each token has a rate of its own, and all without one share another. Reading
+        wants a token only where the service can be reached from beyond this machine."""
         self._refuse_other_host(request)
         token = self._token_of(request)
+        limits, who = self._configuration.limits, token.name if token else ""
+        if not self._buckets.setdefault(who, Bucket(limits.requests_per_second, limits.burst)).take():
+            raise TooManyRequests(f"more than {limits.requests_per_second:g} requests a second")
         if self._configuration.tokens and (permission != "read" or not self._configuration.is_local):
             if token is None:
                 raise NoToken(f"to {permission} wants a token" if "Authorization" not in request.headers else "this token isn't known")
@@ -44,16 +47,14 @@ class Guard:
         # A page of another site can send forms and texts without asking, but no JSON.
         if request.method == "POST" and request.content_type != "application/json":
             raise NotJson(f"it is {request.content_type}")
-        limits, who = self._configuration.limits, token.name if token else ""
-        if not self._buckets.setdefault(who, Bucket(limits.requests_per_second, limits.burst)).take():
-            raise TooManyRequests(f"more than {limits.requests_per_second:g} requests a second")
 
     def _refuse_other_host(self, request: web.Request) -> None:
         """A page of another site can have its name lead to this machine, where reading wants no token. On a Unix socket no browser comes."""
         address = request.transport.get_extra_info("sockname") if request.transport else None
         if not isinstance(address, tuple) or not self._configuration.is_local:
             return
-        host = request.host.rpartition(":")[0] if request.host.rpartition(":")[2].isdigit() else request.host
+        told = request.headers.get("Host", "localhost")
+        host = told.rpartition(":")[0] if told.rpartition(":")[2].isdigit() else told
         if host.strip("[]") not in ("localhost", "127.0.0.1", "::1", address[0], *self._configuration.hosts):
             raise WrongHost(f"{host} is not this service")
 
@@ -76,12 +77,18 @@ async def body_of(request: web.Request, configuration: Configuration) -> dict[st
     except asyncio.TimeoutError:
         raise BodyTooSlow(f"it isn't there after {limits.body_seconds:g} s") from None
     try:
-        told = json.loads(body)
+        told = json.loads(body, parse_constant=refuse_constant)
+        # Half of a pair of UTF-16 is no sign, though JSON can spell it.
+        json.dumps(told, ensure_ascii=False).encode()
     except (ValueError, RecursionError) as error:
         raise BadJson(str(error)) from None
     if not isinstance(told, dict):
         raise BadJson("it is no object")
     return told
+
+
+def refuse_constant(word: str) -> None:
+    raise ValueError(f"{word} is no number of JSON")
 
 
 def field_of(body: dict[str, Any], name: str, kind: type, default: Any = None) -> Any:

@@ -47,9 +47,9 @@ class Paths:
             ("POST", "/v1/processes", "submit", self._submit),
             ("POST", "/v1/processes/{name}/abort", "abort", self._abort),
             ("POST", "/v1/work", "work", self._take),
-            ("POST", "/v1/work/{lease:[0-9]+}/done", "work", self._done),
-            ("POST", "/v1/work/{lease:[0-9]+}/refused", "work", self._refused),
-            ("POST", "/v1/work/{lease:[0-9]+}/heartbeat", "work", self._heartbeat),
+            ("POST", "/v1/work/{lease:[0-9]{1,18}}/done", "work", self._done),
+            ("POST", "/v1/work/{lease:[0-9]{1,18}}/refused", "work", self._refused),
+            ("POST", "/v1/work/{lease:[0-9]{1,18}}/heartbeat", "work", self._heartbeat),
         ):
             made.router.add_route(method, path, self._guarded(permission, handler))
         return made
@@ -115,8 +115,8 @@ class Paths:
     async def _events(self, request: web.Request) -> web.StreamResponse:
         """Server-sent events behind `after` or Last-Event-ID. Where some of those aren't kept any more it begins with `lost`."""
         after = request.headers.get("Last-Event-ID") or request.query.get("after") or str(self._service.events.last)
-        if not after.isascii() or not after.isdigit():
-            raise BadField("`after` is no number")
+        if not after.isascii() or not after.isdigit() or len(after) > 18:
+            raise BadField("`after` is no number of an event")
         if self._streams >= self._configuration.limits.streams:
             raise TooManyStreams(f"{self._streams} event streams are open")
         answer = web.StreamResponse(headers={"Content-Type": "text/event-stream", **HEADERS})
@@ -151,8 +151,9 @@ class Paths:
 
     async def _check(self, request: web.Request) -> web.StreamResponse:
         body = await body_of(request, self._configuration)
-        said = await self._service.check(field_of(body, "text", str))
-        return web.json_response({"is_well_formed": all(line.endswith(": well-formed") for line in said.splitlines()), "said": said.splitlines()})
+        said, hints = await self._service.check(field_of(body, "text", str))
+        is_well_formed = bool(said) and all(line.endswith(": well-formed") for line in said)
+        return web.json_response({"is_well_formed": is_well_formed, "said": said, "hints": hints})
 
     async def _submit(self, request: web.Request) -> web.StreamResponse:
         body = await body_of(request, self._configuration)

@@ -105,18 +105,21 @@ class Runner:
         return number
 
     def _serve(self, number: int) -> None:
-        """Serves until these files are full, or the service stops. What was active in full files has ended then, and its end is kept."""
-        settings = self._configuration
+        """Serves until these files are full, or the service stops. What was active in full files has ended then, and its end is kept. Files of another
+        scenario count as full: what is active in them ends by that one."""
+        settings, scenario = self._configuration, self._sets.scenario(number)
         self.waits_for = "the settling: work of an earlier run that workers have to commit or take back"
         participants = [Reopened(it) for it in self._participants]
-        options: dict[str, Any] = {"program": settings.program, "mark": str(number), "alone": [OPENING], "observer": self._tracker}
+        options: dict[str, Any] = {"program": settings.program, "mark": f"{settings.mark}-{number}".lstrip("-"), "alone": [OPENING], "observer": self._tracker}
         options |= {"most_active": settings.most_active, "workers": settings.most_active, "patience": settings.patience_seconds, "longest_pause": 1.0}
-        scheduler = Scheduler(self._sets.folder(number), self._scenario, participants, **options)
+        scheduler = Scheduler(self._sets.folder(number), scenario, participants, **options)
         try:
             self._open.update(it.name for it in self._ledger.open())
             with self._lock:
                 self._is_full, self._handed_over, self._under_way, self._are_kept = False, self._tracker.count_in_files(), set(), True
                 self._scheduler = scheduler
+                if scenario != self._scenario:
+                    self._files_are_full()
             self._hand_over(self._ledger.open())
             self._watch(scheduler)
         finally:

@@ -1,5 +1,6 @@
 """The service beneath its paths: what clients ask for, and what it consists of."""
 import asyncio
+import fcntl
 import importlib
 import os
 import re
@@ -8,7 +9,7 @@ import subprocess
 import time
 from collections.abc import Sequence
 from concurrent.futures import ThreadPoolExecutor
-from typing import Any
+from typing import Any, TextIO
 
 from sihtolem import Participant, SihtolemError
 from sihtolem.report import operations_of
@@ -35,6 +36,7 @@ class Service:
         self.configuration, self.events, self.metrics = configuration, events, metrics
         self.tracker = Tracker(events, metrics)
         os.makedirs(configuration.folder, exist_ok=True)
+        self._has_folder = locked(f"{configuration.folder}/lock")
         with open(configuration.scenario, encoding="ascii") as file:
             scenario = file.read()
         if configuration.carry_over and NO_PROCESSES not in scenario:
@@ -105,8 +107,8 @@ class Service:
                 raise NotOpen(str(error)) from None
         return self.process(name)
 
-    async def check(self, text: str) -> str:
-        """What `tps check` says of a process text."""
+    async def check(self, text: str) -> tuple[list[str], list[str]]:
+        """What `tps check` says of a process text, and its hints."""
         return await asyncio.get_running_loop().run_in_executor(self._checks, self._checked, text)
 
     def gauges(self) -> tuple[dict[str, tuple[str, float]], dict[str, int]]:
@@ -133,15 +135,17 @@ class Service:
         unknown = [operation for operation in operations_of(text) if operation not in self._operations]
         if unknown:
             raise UnknownOperation(f"nobody does {', '.join(dict.fromkeys(unknown))}")
-        said = await self.check(text)
-        if not said.endswith(": well-formed") or "\n" in said:
-            raise BadProcess(said)
+        said, hints = await self.check(text)
+        if len(said) != 1:
+            raise BadProcess(f"these are {len(said)} processes: submit one at a time")
+        if not said[0].endswith(": well-formed"):
+            raise BadProcess("; ".join([*said, *hints]))
 
-    def _checked(self, text: str) -> str:
+    def _checked(self, text: str) -> tuple[list[str], list[str]]:
         for _ in range(CHECK_TRIES):
-            done = subprocess.run([self.configuration.program, "check"], input=text, stdout=subprocess.PIPE, encoding="utf-8", cwd="/")
+            done = subprocess.run([self.configuration.program, "check"], input=text, capture_output=True, encoding="utf-8", cwd="/")
             if done.returncode >= 0:
-                return done.stdout.strip()
+                return done.stdout.splitlines(), done.stderr.splitlines()
         raise CheckFailed(f"signal {-done.returncode} ended `check`")
 
     # What becomes of leases.
@@ -162,3 +166,13 @@ class Service:
         module, _, function = place.partition(":")
         made: Sequence[Participant] = getattr(importlib.import_module(module), function)(*words)
         return made
+
+
+def locked(path: str) -> TextIO:
+    """The file, with a lock that other services on this machine find; it goes with the process."""
+    file = open(path, "w")
+    try:
+        fcntl.flock(file, fcntl.LOCK_EX | fcntl.LOCK_NB)
+    except BlockingIOError:
+        raise ConfigurationError(f"another service has the folder {os.path.dirname(path)}") from None
+    return file

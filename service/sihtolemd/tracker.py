@@ -132,7 +132,7 @@ class Tracker:
         for rule in began:
             self._metrics.count(self._metrics.waits, rule)
         if changed:
-            self._events.publish("waits", live=True, changed=changed)
+            self._events.publish("waits", changed=changed)
 
     def _wait_of(self, view: View) -> dict[str, Any] | None:
         return {**block_as_json(view.block, self._names), "since": spelled_time(view.since or 0)} if view.block else None

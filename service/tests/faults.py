@@ -1,4 +1,5 @@
 """Bad input, tokens, bodies that are too large, and full disks."""
+import gzip
 import hashlib
 import http.client
 import json
@@ -31,6 +32,7 @@ def look_at_configurations(folder):
         (f'{least}listen = ["nowhere"]', "neither HOST:PORT nor unix:PATH"),
         (f'{least}listen = ["0.0.0.0:1"]', "without a token"),
         (f"{least}most_active = 300", "from 1 to 256"),
+        (f'{least}mark = "north/1"', "`mark` has up to 32"),
         (f"{least}color = 1", "no entry `color`"),
         (f'{least}[limits]\nqueued = "many"', "`queued` of limits is a number"),
         (f'{least}[[tokens]]\nname = "a"\nsha256 = "secret"\nmay = ["submit"]', "no SHA-256"),
@@ -65,14 +67,20 @@ def look_at_bad_input(folder):
             ("bad JSON", "/v1/processes", b"{", "front", 400, "bad_json"),
             ("deep JSON", "/v1/processes", b"[" * 100000, "front", 400, "bad_json"),
             ("bytes", "/v1/processes", b"\xff\xfe", "front", 400, "bad_json"),
+            ("half a sign", "/v1/check", b'{"text": "\\ud800"}', "front", 400, "bad_json"),
+            ("a number that is none", "/v1/work", b'{"worker": "x", "operations": [], "wait": NaN}', "van", 400, "bad_json"),
             ("a list", "/v1/processes", b"[]", "front", 400, "bad_json"),
             ("no field", "/v1/processes", b"{}", "front", 400, "bad_field"),
             ("a number for a text", "/v1/processes", b'{"process": 1}', "front", 400, "bad_field"),
+            ("operations of another type", "/v1/work", b'{"worker": "x", "operations": [[]]}', "van", 400, "bad_field"),
             ("no process", "/v1/processes", b'{"process": "order"}', "front", 422, "bad_process"),
+            ("two processes", "/v1/processes", b'{"process": "process s c a keep 1 1 end process t c a keep 1 1 end"}', "front", 422, "bad_process"),
+            ("a name for fresh files alone", "/v1/processes", b'{"process": "process opening c a keep 1 1 end"}', "front", 422, "bad_process"),
             ("a process that gets stuck", "/v1/processes", b'{"process": "process s p a charge 1 1 p b charge 1 1 end"}', "front", 422, "bad_process"),
             ("an operation of nobody", "/v1/processes", b'{"process": "process s c a fly 1 1 end"}', "front", 422, "unknown_operation"),
             ("no such process", "/v1/processes/nobody/abort", b"{}", "front", 404, "no_process"),
             ("no such lease", "/v1/work/7/done", b"{}", "van", 409, "lease_ended"),
+            ("no lease at all", f"/v1/work/{'9' * 5000}/done", b"{}", "van", 404, "no_such_path"),
             ("no such path", "/v1/nothing", b"{}", "front", 404, "no_such_path"),
             ("another method", "/v1/events", b"{}", "front", 405, "wrong_method"),
             ("too much", "/v1/processes", b" " * 200_000, "front", 413, "body_too_large"),
@@ -80,25 +88,32 @@ def look_at_bad_input(folder):
         for what, path, body, token, status, name in rows:
             told, error = raw_call(daemon, path, body, token)
             check(what, (told, error), (status, name))
+        told = raw_call(daemon, f"/v1/events?after={'9' * 5000}", None, "front", method="GET")
+        check("an event that there can't be", told, (400, "bad_field"))
+        check("no JSON", plain_call(port, "POST", "/v1/check", "x", {"Content-Type": "text/plain"}), 415)
+        check("a form of another page", plain_call(port, "POST", "/v1/processes/x/abort", None, {"Authorization": "Bearer front"}), 415)
         look_at_great_body(daemon)
+        look_at_compressed_body(daemon)
         look_at_hosts(port)
         told = [raw_call(daemon, "/v1/processes", b"{", "front")[1] for _ in range(200)]
         check("a flood", set(told), {"bad_json", "too_many_requests"})
+        look_at_no_http(daemon, port)
         check("a text that is checked", daemon.call("POST", "/v1/check", {"text": "process x c a reserve 1 1 end"})[1]["is_well_formed"], True)
-        check("no JSON", plain_call(port, "POST", "/v1/check", "x", {"Content-Type": "text/plain"}), 415)
-        check("a form of another page", plain_call(port, "POST", "/v1/processes/x/abort", None, {"Authorization": "Bearer front"}), 415)
+        told = [raw_call(daemon, "/v1/processes", b"{}", "wrong")[1] for _ in range(200)]
+        check("a flood of wrong tokens", set(told), {"no_token", "too_many_requests"})
+        check("faults of the service", daemon.events("internal_error"), [])
         daemon.stop()
     finally:
         end(daemon.process)
-    return f"{len(rows)} kinds of bad input, a flood, and bodies of 100 MB"
+    return f"{len(rows)} kinds of bad input, floods, what is no HTTP, and bodies of 100 MB"
 
 
-def raw_call(daemon, path, body, token):
+def raw_call(daemon, path, body, token, *, method="POST", more={}):
     """The status and the name of the error, of a body that may be no JSON."""
     connection = Connection(daemon.address, 30)
-    headers = {"Content-Type": "application/json", **({"Authorization": f"Bearer {token}"} if token else {})}
+    headers = {"Content-Type": "application/json", **({"Authorization": f"Bearer {token}"} if token else {}), **more}
     try:
-        connection.request("POST", path, body, headers)
+        connection.request(method, path, body, headers)
     except (BrokenPipeError, ConnectionResetError):
         pass
     answer = connection.getresponse()
@@ -131,6 +146,25 @@ def look_at_great_body(daemon):
         raise Failure("100 MB stay in memory")
 
 
+def look_at_compressed_body(daemon):
+    """What is compressed is taken as it is: it doesn't become 100 MB."""
+    before, body = memory_of(daemon.process.pid), gzip.compress(b" " * 100_000_000)
+    check("a compressed body", raw_call(daemon, "/v1/processes", body, "front", more={"Content-Encoding": "gzip"}), (400, "bad_json"))
+    if memory_of(daemon.process.pid) > before + 20_000:
+        raise Failure("a compressed body is unpacked")
+
+
+def look_at_no_http(daemon, port):
+    """What is no HTTP, or has a head that is too long, is refused, and is one line of the log each."""
+    texts = [b"HELO there\r\n\r\n", b"GET /" + b"a" * 20_000 + b" HTTP/1.1\r\n\r\n", b"GET / HTTP/1.1\r\nA: " + b"a" * 20_000 + b"\r\n\r\n"]
+    for text in texts:
+        with socket.create_connection(("127.0.0.1", port), 30) as it:
+            it.sendall(text)
+            status = it.makefile("rb").readline()
+        check(f"{text[:20]!r}", b" 400 " in status, True)
+    wait_for(lambda: sum("no HTTP" in event["what"] for event in daemon.events("log")) == len(texts), "what is no HTTP is logged")
+
+
 def pour(it, is_chunked):
     piece = b"x" * 100_000
     try:
@@ -154,6 +188,53 @@ def look_at_hosts(port):
         daemon.start(until_open=False)
         if daemon.process.wait(30) == 0 or "without a token" not in daemon.log():
             raise Failure("the service listens beyond the machine without a token")
+
+
+def look_at_limits(folder):
+    """Each limit at one more than it allows: open processes, event streams, polls of workers, and the time that a body takes."""
+    limits = {"queued": 2, "streams": 1, "polls": 1, "body_seconds": 0.5}
+    daemon = Daemon(folder, limits=limits).start()
+    try:
+        texts = [order(number).process for number in (1, 2, 3)]
+        told = [raw_call(daemon, "/v1/processes", json.dumps({"process": text}).encode(), "") for text in texts]
+        check("open processes", told, [(201, None), (201, None), (503, "queue_full")])
+        stream = Connection(daemon.address, 30)
+        stream.request("GET", "/v1/events")
+        check("a stream", stream.getresponse().status, 200)
+        check("one stream more", raw_call(daemon, "/v1/events", None, "", method="GET"), (503, "too_many_streams"))
+        stream.close()
+        wait = json.dumps({"worker": "x", "operations": [], "wait": 60}).encode()
+        waiting = Connection(daemon.address, 30)
+        waiting.request("POST", "/v1/work", wait, {"Content-Type": "application/json"})
+        wait_for(lambda: "sihtolem_workers_polling 1\n" in daemon.call_text("/metrics"), "one waits for work")
+        check("one more who waits for work", raw_call(daemon, "/v1/work", wait, ""), (503, "too_many_streams"))
+        waiting.close()
+        with socket.socket(socket.AF_UNIX) as it:
+            it.connect(daemon.address.removeprefix("unix:"))
+            it.sendall(b"POST /v1/check HTTP/1.1\r\nHost: x\r\nContent-Type: application/json\r\nContent-Length: 20\r\n\r\n{")
+            answer = it.makefile("rb").read()
+        check("half a body", (b" 408 " in answer, b"body_too_slow" in answer), (True, True))
+    finally:
+        end(daemon.process)
+    return f"limits: {', '.join(limits)}"
+
+
+def look_at_other_machines(folder):
+    """Where other machines reach the service each call wants a token, but the page and whether it is ready."""
+    port = free_port()
+    token = {"name": "reader", "sha256": hashlib.sha256(b"reader").hexdigest(), "may": ["read"]}
+    daemon = Daemon(folder, tokens=[token], listen=[f"unix:{folder}/socket", f"0.0.0.0:{port}"]).start()
+    try:
+        for path in ("/v1/processes", "/metrics", "/v1/events"):
+            check(f"{path} without a token", plain_call(port, "GET", path, None, {}), 401)
+            check(f"{path} with a wrong one", plain_call(port, "GET", path, None, {"Authorization": "Bearer wrong"}), 401)
+            check(f"{path} with one", plain_call(port, "GET", path, None, {"Authorization": "Bearer reader"}), 200)
+        for path in ("/", "/window.js", "/ready"):
+            check(path, plain_call(port, "GET", path, None, {}), 200)
+        check("a reader who submits", plain_call(port, "POST", "/v1/processes", "{}", {"Authorization": "Bearer reader"}), 403)
+    finally:
+        end(daemon.process)
+    return "what other machines may do"
 
 
 def look_at_full_disk(folder):

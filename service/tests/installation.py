@@ -5,15 +5,27 @@ import sys
 
 from running import PROGRAM, TOP, Daemon, Failure, check, end, script, wait_for
 
-WANTED = ("bin/tps", "bin/draw", "bin/sihtolemd", "share/man/man1/tps.1", "share/doc/sihtolem/OPERATING.md", "lib/systemd/system/sihtolemd.service")
+WANTED = (
+    "bin/tps",
+    "bin/sihtolemd",
+    "share/man/man1/tps.1",
+    "share/doc/sihtolem/OPERATING.md",
+    "share/doc/sihtolem/window.png",
+    "share/sihtolem/sihtolemd.toml",
+    "share/sihtolem/clients/python/pyproject.toml",
+    "share/sihtolem/clients/node/package.json",
+    "lib/systemd/system/sihtolemd.service",
+)
 
 
 def look_at_installation(folder):
-    subprocess.run([f"{TOP}/service/deploy/install", f"{folder}/root", "/usr"], env={**os.environ, "PROGRAM": PROGRAM}, check=True)
+    subprocess.run(["make", "-s", "-C", TOP, "install", f"DESTDIR={folder}/root", "PREFIX=/usr", f"PROGRAM={PROGRAM}"], check=True)
     there = f"{folder}/root/usr"
     for path in WANTED:
         if not os.path.exists(f"{there}/{path}"):
             raise Failure(f"the installation lacks {path}")
+    with open(f"{TOP}/examples/first.process", "rb") as text:
+        check("draw", b"</svg>" in subprocess.run([f"{there}/bin/draw", "process"], stdin=text, stdout=subprocess.PIPE, check=True).stdout, True)
     examples = f"{there}/share/sihtolem/examples/service"
     entries = {"program": f"{there}/bin/tps", "scenario": f"{examples}/shop.toml", "carry_over": [sys.executable, f"{examples}/carry_over.py", f"{folder}/state/databases"]}
     daemon = Daemon(f"{folder}/state", **entries)

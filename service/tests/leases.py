@@ -152,29 +152,5 @@ def state_of(daemon, name):
     return daemon.call("GET", f"/v1/processes/{name}")[1]["state"]
 
 
-def look_at_sets(folder):
-    """Files that are full: what is active in them ends, one that waits for fresh files can be called off, and another one is started there."""
-    daemon = Daemon(folder, processes_in_files=2, lease_seconds=60.0).start()
-    try:
-        databases = opened(daemon.databases)
-        for name in "abc":
-            daemon.call("POST", "/v1/processes", {"process": f"process {name} c reserve reserve 1 1 p pay charge 1 1 end"})
-        wait_for(lambda: state_of(daemon, "a") == "active", "the first one starts")
-        check("the files", [event["files"] for event in daemon.events("files_full")], [1])
-        told = daemon.call("POST", "/v1/processes/b/abort")[1]
-        check("who is called off", (told["state"], told["path"], told["reasons"]), ("ended", [], ["aborted before its start"]))
-        check("the service", daemon.call("GET", "/ready")[0], 200)
-        while state_of(daemon, "c") != "ended":
-            status, told = daemon.call("POST", "/v1/work", {"worker": "tester", "operations": OPERATIONS, "wait": 1})
-            if status == 200:
-                finish(daemon, databases, told)
-        told = daemon.call("GET", "/v1/processes/c")[1]
-        check("who is started in fresh files", (told["files"], told["path"]), (2, ["reserve", "pay"]))
-        daemon.stop()
-    finally:
-        end(daemon.process)
-    return "files that are full"
-
-
 def take_charge(daemon):
     return take(daemon, "slow", ["charge"], 20.0)

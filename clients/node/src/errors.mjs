@@ -29,19 +29,19 @@ export class ScenarioRefused extends SihtolemError {
   static advice = "mend the scenario; operations and conflicts stay those with which the files were made";
 }
 
-/** The nine files of the folder aren't whole, or aren't of one moment. */
+/** The nine files of the folder aren't whole, aren't of one moment, or can't be used. */
 export class FilesRefused extends SihtolemError {
-  static advice = "bring back nine files of one moment, such as those that `backup` made";
+  static advice = "bring back nine files of one moment, such as those that `backup` made, or mend their permissions where the line says so";
 }
 
-/** Another program has the folder, or the disk fails, for longer than `patience`. */
+/** Another program has the folder for longer than `patience`. */
 export class FolderInUse extends SihtolemError {
-  static advice = "stop the program that has the folder, or look at the disk, and start again";
+  static advice = "stop the program that has the folder, and start again";
 }
 
-/** `tps serve` ends again and again without an answer. */
+/** `tps serve` ends again and again without an answer, as where the disk fails. */
 export class ServeFailed extends SihtolemError {
-  static advice = "look at its last line and status in docs/COMMANDS.md, and at memory and limits of the machine";
+  static advice = "look at its last line and status in docs/COMMANDS.md, and at disk, memory and limits of the machine";
 }
 
 /** The text is no process, or one that can get stuck. Nothing was started. */

@@ -224,7 +224,7 @@ export class Scheduler {
         } else if (error instanceof Ended) {
           this.log.warn(error.message);
           raiseIfUseless(error);
-          fault = error.line === "disk fault" ? new FolderInUse(error.message) : new ServeFailed(error.message);
+          fault = error.line === "folder in use" ? new FolderInUse(error.message) : new ServeFailed(error.message);
         } else throw error;
       }
       const now = Date.now();
@@ -561,5 +561,5 @@ const wordOf = (job) => (job.refusal === null ? "done" : "refused");
 function raiseIfUseless(ended) {
   const what = `${ended.line || "no line"}, status ${ended.status}`;
   if ([1, 2, 3, 4].includes(ended.status)) throw new ScenarioRefused(what);
-  if ([5, 6, 7].includes(ended.status)) throw new FilesRefused(what);
+  if ([5, 6, 7, 15, 16, 17].includes(ended.status)) throw new FilesRefused(what);
 }

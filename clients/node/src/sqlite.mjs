@@ -1,5 +1,5 @@
 /** A SQLite database that takes part. It can't prepare a transaction, so what is prepared is a row, and what it holds back. */
-import { Overtaken, Refused, Unreachable } from "./errors.mjs";
+import { Overtaken, Refused, Unreachable, WorkAhead } from "./errors.mjs";
 import { State } from "./settling.mjs";
 import { filled, inOrder, literal } from "./statements.mjs";
 
@@ -101,9 +101,13 @@ export class Sqlite {
     this.setUp = [];
   }
 
-  /** The state of the step, and its work with what was kept of it. It is called within each transaction of a step, first. */
+  /** The state of the step, and its work with what was kept of it. It is called within each transaction of a step, first. Work of another process
+   * under this name is none of this one. */
   async kept(work) {
     const [row] = await this.database.prepare(`SELECT process, operation, key, amount, state FROM sihtolem_work WHERE ${at(work)}`).all();
+    if (row && !["", row.process].includes(work.process)) {
+      throw new WorkAhead(`the system has work of ${row.process} under the name of work of ${work.process}`, [work.name]);
+    }
     return row ? [row.state, work.with(row)] : [State.ABSENT, work];
   }
 

@@ -30,21 +30,21 @@ class ScenarioRefused(SihtolemError):
 
 
 class FilesRefused(SihtolemError):
-    """The nine files of the folder aren't whole, or aren't of one moment."""
+    """The nine files of the folder aren't whole, aren't of one moment, or can't be used."""
 
-    advice = "bring back nine files of one moment, such as those that `backup` made"
+    advice = "bring back nine files of one moment, such as those that `backup` made, or mend their permissions where the line says so"
 
 
 class FolderInUse(SihtolemError):
-    """Another program has the folder, or the disk fails, for longer than `patience`."""
+    """Another program has the folder for longer than `patience`."""
 
-    advice = "stop the program that has the folder, or look at the disk, and start again"
+    advice = "stop the program that has the folder, and start again"
 
 
 class ServeFailed(SihtolemError):
-    """`tps serve` ends again and again without an answer."""
+    """`tps serve` ends again and again without an answer, as where the disk fails."""
 
-    advice = "look at its last line and status in docs/COMMANDS.md, and at memory and limits of the machine"
+    advice = "look at its last line and status in docs/COMMANDS.md, and at disk, memory and limits of the machine"
 
 
 class ProcessRefused(SihtolemError):

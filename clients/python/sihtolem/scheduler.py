@@ -286,7 +286,7 @@ class Scheduler:
             except Ended as ended:
                 log.warning("%s", ended)
                 self._raise_if_useless(ended)
-                fault: SihtolemError = FolderInUse(str(ended)) if ended.line == "disk fault" else ServeFailed(str(ended))
+                fault: SihtolemError = FolderInUse(str(ended)) if ended.line == "folder in use" else ServeFailed(str(ended))
             except Stuck as stuck:
                 log.warning("%s: serve is started anew, so that each step has its tries again", stuck)
                 fault, answered = ServeFailed(str(stuck)), True
@@ -304,7 +304,7 @@ class Scheduler:
         what = f"{ended.line or 'no line'}, status {ended.status}"
         if ended.status in (1, 2, 3, 4):
             raise ScenarioRefused(what) from None
-        if ended.status in (5, 6, 7):
+        if ended.status in (5, 6, 7, 15, 16, 17):
             raise FilesRefused(what) from None
 
     def _open(self, dialogue: Dialogue) -> None:

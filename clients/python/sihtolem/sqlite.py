@@ -6,7 +6,7 @@ from contextlib import contextmanager
 from dataclasses import dataclass, replace
 from typing import Any
 
-from .errors import Refused, Unreachable
+from .errors import Refused, Unreachable, WorkAhead
 from .participants import Work
 from .settling import State
 from .statements import filled, in_order
@@ -98,11 +98,13 @@ class Sqlite:
 
     @staticmethod
     def _kept(execute: Callable[..., sqlite3.Cursor], work: Work) -> tuple[State, Work]:
-        """The state of the step, and its work with what was kept of it."""
+        """The state of the step, and its work with what was kept of it. Work of another process under this name is none of this one."""
         query = "SELECT process, operation, key, amount, state FROM sihtolem_work WHERE mark = ? AND place = ?"
         row = execute(query, (work.mark, work.place)).fetchone()
         if row is None:
             return State.ABSENT, work
+        if work.process not in ("", row[0]):
+            raise WorkAhead(f"the system has work of {row[0]} under the name of work of {work.process}", [work.name])
         return State(row[4]), replace(work, process=row[0], operation=row[1], key=row[2], amount=row[3])
 
     @staticmethod

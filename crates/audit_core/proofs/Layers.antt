@@ -8,13 +8,13 @@ use Rattle.std.proofs.lemmas.List.{get_or_past}
 use Rattle.bit_rows.specs.Cells.{cell}
 use Rattle.schedule_model.specs.Graph.{Arrow}
 use Rattle.dependence_model.specs.Audited.{ComesBack, StandsBefore}
-use Rattle.audit_core.specs.Arrows.{has, HasArrows, IsStepBack, IsLayer, AreLayers, AreShortest, IsLeastBack, IsOnWay, IsNext}
+use Rattle.audit_core.specs.Arrows.{has, HasArrows, IsStepBack, IsLayer, AreLayers, AreShortest, IsLeastBack, IsOnWay, IsNext, columns}
 
 -- behind the last row there is nothing
-pub within_rows : (rows : List (List Bool)) (j k : ℕ) → length rows ≡ 256 → cell rows j k ≡ true → j < 256
-within_rows rows j k count is = by (cases_lt j 256)
+pub within_rows : (rows : List (List Bool)) (j k : ℕ) → length rows ≡ columns → cell rows j k ≡ true → j < columns
+within_rows rows j k count is = by (cases_lt j columns)
   where
-    by : (j < 256) ⊎ (256 ≤ j) → j < 256
+    by : (j < columns) ⊎ (columns ≤ j) → j < columns
     by (inl less) = less
     by (inr past) = absurd (false≢true (sym (ap (λ row. slice_index_or row k false) (get_or_past rows j [] (omega (arith, past, count)))) ∙ is))
 
@@ -136,14 +136,14 @@ module _ (arrow : Arrow) (rows : List (List Bool)) (arrows : HasArrows arrow row
 
   -- there is a next one
   pub has_next : (i m : ℕ) (set : List Bool) (rest : List ℕ) → IsLayer arrow first m set → length rest ≡ m + 1 → ComesBack arrow first i rest
-      → (k : ℕ) × (k < 256) × IsNext rows set i k
+      → (k : ℕ) × (k < columns) × IsNext rows set i k
   has_next i m set [] layer long way = absurd (omega (arith, long))
   has_next i m set (k ∷ ks) layer long way =
       let set' = arrows.at i k ∙ way.0 in
       (k, within_rows rows k i arrows.count set', record { in' = layer.complete k ks (omega (arith, long)) way.1; arrow = set' })
 
   -- on the way, before the first choice
-  pub on_way-begins : (sets shorter' : List (List Bool)) (set : List Bool) → first < 256 → AreShortest arrow first sets → sets ≡ shorter' ++ set ∷ []
+  pub on_way-begins : (sets shorter' : List (List Bool)) (set : List Bool) → first < columns → AreShortest arrow first sets → sets ≡ shorter' ++ set ∷ []
       → IsOnWay arrow first (length sets) shorter' first (first ∷ [])
   on_way-begins sets shorter' set within shortest is =
       let parts = layers-last 0 shorter' set (subst (AreLayers arrow first 0) is shortest.layers) in
@@ -162,7 +162,7 @@ module _ (arrow : Arrow) (rows : List (List Bool)) (arrows : HasArrows arrow row
 
   -- there is a further one
   pub on_way-next : (count last : ℕ) (sets shorter' : List (List Bool)) (set : List Bool) (cycle : List ℕ) → IsOnWay arrow first count sets last cycle
-      → sets ≡ shorter' ++ set ∷ [] → (k : ℕ) × (k < 256) × IsNext rows set last k
+      → sets ≡ shorter' ++ set ∷ [] → (k : ℕ) × (k < columns) × IsNext rows set last k
   on_way-next count last sets shorter' set cycle way is =
       let parts = layers-last 0 shorter' set (subst (AreLayers arrow first 0) is way.layers) in
       let long : length sets ≡ length shorter' + 1 = ap length is ∙ length-append shorter' (set ∷ []) in
@@ -170,7 +170,7 @@ module _ (arrow : Arrow) (rows : List (List Bool)) (arrows : HasArrows arrow row
 
   -- and behind one more
   pub on_way-more : (count last next : ℕ) (sets shorter' : List (List Bool)) (set : List Bool) (cycle : List ℕ) → IsOnWay arrow first count sets last cycle
-      → sets ≡ shorter' ++ set ∷ [] → next < 256 → IsNext rows set last next → ((k : ℕ) → k < next → IsNext rows set last k → ⊥)
+      → sets ≡ shorter' ++ set ∷ [] → next < columns → IsNext rows set last next → ((k : ℕ) → k < next → IsNext rows set last k → ⊥)
       → IsOnWay arrow first count shorter' next (cycle ++ next ∷ [])
   on_way-more count last next sets shorter' set cycle way is within here none =
       let parts = layers-last 0 shorter' set (subst (AreLayers arrow first 0) is way.layers) in

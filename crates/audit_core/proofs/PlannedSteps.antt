@@ -36,7 +36,8 @@ use Rattle.schedule_rules.proofs.Known.{all_at}
 use Rattle.dependence_model.specs.declared.placed.Placed.{Placed}
 use Rattle.dependence_model.specs.Dependence.{placed_from}
 use Rattle.audit_core.specs.Taking.{AreAllKnown}
-use Rattle.audit_core.specs.Arrows.{AreFew}
+use Rattle.audit_core.specs.Arrows.{AreFew, columns}
+use Rattle.audit_core.specs.Audits.{most_events}
 use Rattle.process_tree.specs.Conflicts.{Table, operations_in}
 
 -- a net entry took effect
@@ -137,13 +138,13 @@ module _ (plans : List Plan) (h : List Event) where
       placed-known table 1 (acts (completed (courses_of plans) h)) (act-known plans planned.good (operations_in table) planned.known (completed (courses_of plans) h) legal)
 
   -- and the processes are those that started before it was completed
-  pub schedule-few : (n : ℕ) → IsPlanned n plans h → IsTrue (is_in_own_order (courses_of plans) h) → length h ≤ 128
+  pub schedule-few : (n : ℕ) → IsPlanned n plans h → IsTrue (is_in_own_order (courses_of plans) h) → length h ≤ most_events
       → AreFew (placed_from 1 (acts (completed (courses_of plans) h)))
   schedule-few n planned own few =
       let cs = courses_of plans in
       let legal = legal-from_own_order cs (completed cs h) (own_order-completion plans h planned.good own).0 in
       let count = starts_few h in
-      placed-each (λ (e : Entry). e.process < 256) 1 (acts (completed cs h)) (λ e is.
+      placed-each (λ (e : Entry). e.process < columns) 1 (acts (completed cs h)) (λ e is.
       let number = legal-numbered no_conflict cs (completed cs h) legal e.process (acts-started no_conflict cs (completed cs h) legal e is) in
       let same = ap length (starts-append h (completion cs h) ∙ (ap (λ is. starts h ++ is) (starts-completion cs h) ∙ append-nil (starts h))) in
       omega (arith, number.1, same, count, few))

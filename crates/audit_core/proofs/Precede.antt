@@ -6,7 +6,7 @@ use Rattle.schedule_model.specs.Conflict.{ConflictRelation, conflict}
 use Rattle.schedule_model.specs.Histories.{is_in}
 use Rattle.dependence_model.specs.declared.placed.Placed.{Placed}
 use Rattle.dependence_model.specs.Dependence.{must_precede, processes_of}
-use Rattle.audit_core.specs.Arrows.{AreFew, HasAll}
+use Rattle.audit_core.specs.Arrows.{AreFew, HasAll, columns}
 
 -- what holds at an answer, and what follows
 pub if_ok : {X E : Type 0} (P Q : X → Type 0) (r : Result X E) → IfOk r P → ((x : X) → P x → Q x) → IfOk r Q
@@ -42,12 +42,12 @@ module _ (table : ConflictRelation) where
           (leads_to x xs j (and_parts (eqb x.entry.process i) (list_any (λ y. eqb y.entry.process j && conflict table x.entry y.entry) xs) here).1)
       by later (inr there) = or_right (eqb j x.entry.process) (is_in j (processes_of xs)) (later there)
 
-  few_in : (xs : List Placed) (i : ℕ) → AreFew xs → is_in i (processes_of xs) ≡ true → i < 256
+  few_in : (xs : List Placed) (i : ℕ) → AreFew xs → is_in i (processes_of xs) ≡ true → i < columns
   few_in [] i few has = absurd (false≢true has)
   few_in (x ∷ xs) i few has = by (few_in xs i few.1) (or_cases (eqb i x.entry.process) (is_in i (processes_of xs)) has)
     where
-      by : (is_in i (processes_of xs) ≡ true → i < 256) → (eqb i x.entry.process ≡ true) ⊎ (is_in i (processes_of xs) ≡ true) → i < 256
-      by later (inl here) = subst (λ (k : ℕ). k < 256) (sym (eqb-true i x.entry.process here)) few.0
+      by : (is_in i (processes_of xs) ≡ true → i < columns) → (eqb i x.entry.process ≡ true) ⊎ (is_in i (processes_of xs) ≡ true) → i < columns
+      by later (inl here) = subst (λ (k : ℕ). k < columns) (sym (eqb-true i x.entry.process here)) few.0
       by later (inr there) = later there
 
   pub has_all : (xs : List Placed) → AreFew xs → HasAll (must_precede table xs) (processes_of xs)

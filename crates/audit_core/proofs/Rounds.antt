@@ -9,7 +9,7 @@ use Rattle.schedule_model.proofs.Active.{is_in-filter}
 use Rattle.schedule_model.proofs.Walks.{any-is_in, is_in-any, leads-from_walk}
 use Rattle.dependence_model.specs.Dependence.{goes_round}
 use Rattle.dependence_model.specs.Audited.{ComesBack, IsToldCycle}
-use Rattle.audit_core.specs.Arrows.{HasAll, AreShortest, IsLeastBack}
+use Rattle.audit_core.specs.Arrows.{HasAll, AreShortest, IsLeastBack, columns}
 
 module _ (arrow : Arrow) where
   comes_back-more : (i j k : ℕ) (ks : List ℕ) → ComesBack arrow j i ks → IsTrue (arrow j k) → ComesBack arrow k i (ks ++ j ∷ [])
@@ -70,7 +70,7 @@ module _ (arrow : Arrow) where
     goes_round-back first ks back = any-is_in (λ i. leads arrow all i i) first all (comes_to first first ks back) (leads-from_walk arrow all (walk_back first first ks back))
 
     -- where no walk leads back from any, none goes round
-    pub goes_round-none : ((i : ℕ) → i < 256 → leads arrow all i i ≡ false) → goes_round arrow all ≡ false
+    pub goes_round-none : ((i : ℕ) → i < columns → leads arrow all i i ≡ false) → goes_round arrow all ≡ false
     goes_round-none none = by (cases_Bool (goes_round arrow all))
       where
         by : (goes_round arrow all ≡ true) ⊎ (goes_round arrow all ≡ false) → goes_round arrow all ≡ false

@@ -13,7 +13,7 @@ use Rattle.audit_core.specs.Taking.{is_own, AreAllKnown, IsTakenAt, StaysAt, Too
 use Rattle.process_tree.specs.Conflicts.{Table}
 use Rattle.process_tree.specs.Order.{Each}
 use Rattle.process_tree.proofs.Every.{Each-append}
-use Rattle.audit_core.specs.Arrows.{AreFew}
+use Rattle.audit_core.specs.Arrows.{AreFew, columns}
 use Rattle.audit_core.proofs.Chains.{own_stays}
 
 -- two lists that begin with as many
@@ -192,7 +192,7 @@ each-parts P (x ∷ xs) ys each = let more = each-parts P xs ys each.1 in ((each
 
 taken-few : (table : ConflictRelation) (xs ys : List Placed) → IsTaken table xs ys → AreFew xs → AreFew ys
 taken-few table xs ys t each =
-    let few = λ (x : Placed). x.entry.process < 256 in
+    let few = λ (x : Placed). x.entry.process < columns in
     let parts = each-parts few t.0 (t.3 ∷ (t.1 ++ t.4 ∷ t.2)) (subst AreFew t.5 each) in
     let mids = each-parts few t.1 (t.4 ∷ t.2) parts.1.1 in
     subst AreFew (sym t.6) (Each-append few t.0 (t.1 ++ t.2) parts.0 (Each-append few t.1 t.2 mids.0 mids.1.1))

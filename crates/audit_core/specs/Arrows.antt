@@ -9,17 +9,21 @@ use Rattle.dependence_model.specs.declared.placed.Placed.{Placed}
 use Rattle.dependence_model.specs.Dependence.{goes_round}
 use Rattle.dependence_model.specs.Audited.{ComesBack, StandsBefore, IsToldCycle}
 
--- the processes of these entries have numbers below 256
-abbrev pub AreFew : List Placed → Type 0
-AreFew xs = Each (λ x. x.entry.process < 256) xs
+-- how many columns a row of bits has
+abbrev pub columns : ℕ
+columns = 256
 
--- these numbers are below 256
+-- the processes of these entries have numbers below that
+abbrev pub AreFew : List Placed → Type 0
+AreFew xs = Each (λ x. x.entry.process < columns) xs
+
+-- these numbers are below it
 abbrev pub AreBelow : List ℕ → Type 0
-AreBelow is = Each (λ i. i < 256) is
+AreBelow is = Each (λ i. i < columns) is
 
 -- row j has column i where an arrow leads from i to j
 pub record HasArrows (arrow : Arrow) (rows : List (List Bool)) : Type 0 where
-  pub count : length rows ≡ 256
+  pub count : length rows ≡ columns
   pub at : (i j : ℕ) → cell rows j i ≡ arrow i j
 
 -- the arrows that are set in rows
@@ -33,7 +37,7 @@ has set k = slice_index_or set k false
 -- a set has each from which an arrow leads into the other, and no more
 pub record IsStepBack (rows : List (List Bool)) (set before : List Bool) : Type 0 where
   pub sound : (k : ℕ) → has before k ≡ true → (j : ℕ) × (has set j ≡ true) × (cell rows j k ≡ true)
-  pub complete : (j k : ℕ) → j < 256 → has set j ≡ true → cell rows j k ≡ true → has before k ≡ true
+  pub complete : (j k : ℕ) → j < columns → has set j ≡ true → cell rows j k ≡ true → has before k ≡ true
 
 -- a set has each that comes back to the first through n others, and no more
 pub record IsLayer (arrow : Arrow) (first n : ℕ) (set : List Bool) : Type 0 where
@@ -67,7 +71,7 @@ pub record IsLeastBack (arrow : Arrow) (first i n : ℕ) (others : List ℕ) : T
 -- On the way back from the first, through others that were chosen, one has come to this process, from which as many sets are left as
 -- there are others on the rest of the way. The least rest makes the least whole.
 pub record IsOnWay (arrow : Arrow) (first count : ℕ) (sets : List (List Bool)) (last : ℕ) (cycle : List ℕ) : Type 0 where
-  pub within : last < 256
+  pub within : last < columns
   pub layers : AreLayers arrow first 0 sets
   pub rest : List ℕ
   pub rest_count : length rest ≡ length sets
@@ -88,7 +92,7 @@ abbrev pub FindsCycle : Arrow → List ℕ → Option (Vec ℕ Global) → Type 
 FindsCycle arrow all None = goes_round arrow all ≡ false
 FindsCycle arrow all (Some cycle) = (goes_round arrow all ≡ true) × IsToldCycle arrow all cycle.items
 
--- arrows lead to these processes alone, which have numbers below 256
+-- arrows lead to these processes alone, which have numbers below that of columns
 pub record HasAll (arrow : Arrow) (all : List ℕ) : Type 0 where
   pub target : (i j : ℕ) → arrow i j ≡ true → IsTrue (is_in j all)
-  pub few : (i : ℕ) → IsTrue (is_in i all) → i < 256
+  pub few : (i : ℕ) → IsTrue (is_in i all) → i < columns

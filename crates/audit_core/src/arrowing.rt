@@ -6,7 +6,7 @@ ghost use Rattle.schedule_model.specs.Conflict.{conflict};
 ghost use Rattle.bit_rows.specs.Cells.{cell};
 ghost use Rattle.dependence_model.specs.Dependence.{must_precede};
 ghost use Rattle.audit_core.specs.Taking.{AreAllKnown};
-ghost use Rattle.audit_core.specs.Arrows.{AreFew, HasArrows};
+ghost use Rattle.audit_core.specs.Arrows.{AreFew, HasArrows, columns};
 
 use bit_rows::{Bits, COLUMNS};
 use dependence_model::Placed;
@@ -16,10 +16,10 @@ use std::alloc::{AllocError, Global};
 
 // Sets an arrow.
 fn set_arrow(rows: &mut Bits, from: u32, to: u32)
-    requires count { length rows.old ≡ 256 }
-    requires from { from < 256 }
-    requires to { to < 256 }
-    ensures count { length rows.new ≡ 256 }
+    requires count { length rows.old ≡ columns }
+    requires from { from < columns }
+    requires to { to < columns }
+    ensures count { length rows.new ≡ columns }
     ensures at { (i j : ℕ) → cell rows.new j i ≡ (cell rows.old j i || (nat_eq from i && nat_eq to j)) }
 {
     rows.set(to as usize, from as usize);
@@ -29,10 +29,10 @@ fn set_arrow(rows: &mut Bits, from: u32, to: u32)
 fn add_arrow(c: &Conflicts, x: &Entry, y: &Entry, rows: &mut Bits)
     requires x { x.now.op < operations_in c.now }
     requires y { y.now.op < operations_in c.now }
-    requires from { x.now.process < 256 }
-    requires to { y.now.process < 256 }
-    requires count { length rows.old ≡ 256 }
-    ensures count { length rows.new ≡ 256 }
+    requires from { x.now.process < columns }
+    requires to { y.now.process < columns }
+    requires count { length rows.old ≡ columns }
+    ensures count { length rows.new ≡ columns }
     ensures at { (i j : ℕ) → cell rows.new j i
         ≡ (cell rows.old j i || (nat_eq x.now.process i && (nat_eq y.now.process j && conflict (do_conflict c.now) x.now y.now))) }
 {
@@ -45,10 +45,10 @@ fn add_arrow(c: &Conflicts, x: &Entry, y: &Entry, rows: &mut Bits)
 fn add_arrows(c: &Conflicts, x: &Entry, behind: &[Placed], rows: &mut Bits)
     requires x { x.now.op < operations_in c.now }
     requires known { AreAllKnown c.now behind.now }
-    requires from { x.now.process < 256 }
+    requires from { x.now.process < columns }
     requires few { AreFew behind.now }
-    requires count { length rows.old ≡ 256 }
-    ensures count { length rows.new ≡ 256 }
+    requires count { length rows.old ≡ columns }
+    ensures count { length rows.new ≡ columns }
     ensures at { (i j : ℕ) → cell rows.new j i ≡ (cell rows.old j i
         || (nat_eq x.now.process i && list_any (λ y. nat_eq y.entry.process j && conflict (do_conflict c.now) x.now y.entry) behind.now)) }
 {

@@ -14,6 +14,9 @@ use schedule_model::{Events, Plans};
 use schedule_rules::{History, started};
 use std::alloc::{AllocError, Global};
 
+/// How many events an audit takes.
+pub const MOST_EVENTS: usize = 128;
+
 // The history without its last event, with the plans of those that started in it.
 fn without_last(alloc: Global, h: History) -> Result<History, AllocError>
     requires some { 0 < length h.events }

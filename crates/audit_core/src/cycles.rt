@@ -4,7 +4,7 @@ ghost use Rattle.process_tree.specs.Conflicts.{do_conflict};
 ghost use Rattle.schedule_model.specs.Graph.{Arrow};
 ghost use Rattle.dependence_model.specs.Dependence.{must_precede, processes_of};
 ghost use Rattle.audit_core.specs.Taking.{AreAllKnown};
-ghost use Rattle.audit_core.specs.Arrows.{AreFew, AreShortest, FindsCycle, FindsLayers, HasAll, HasArrows, IsLeastBack, IsNext, IsStepBack};
+ghost use Rattle.audit_core.specs.Arrows.{AreFew, AreShortest, FindsCycle, FindsLayers, HasAll, HasArrows, IsLeastBack, IsNext, IsStepBack, columns};
 
 use crate::arrowing::arrows;
 use bit_rows::{BitRow, Bits, COLUMNS};
@@ -14,7 +14,7 @@ use std::alloc::{AllocError, Global};
 
 // The processes from which an arrow leads to one of these.
 fn step_back(rows: &Bits, set: &BitRow) -> BitRow
-    requires count { length rows.now ≡ 256 }
+    requires count { length rows.now ≡ columns }
     ensures { IsStepBack rows.now set.now result }
 {
     let mut before = BitRow::new();
@@ -34,8 +34,8 @@ fn layers_of(
     first: usize,
     most: usize,
 ) -> Result<Option<Vec<BitRow>>, AllocError>
-    requires first { first < 256 }
-    requires count { length rows.now ≡ 256 }
+    requires first { first < columns }
+    requires count { length rows.now ≡ columns }
     ensures { IfOk result (λ found. (arrow : Arrow) → HasArrows arrow rows.now → FindsLayers arrow first most found) }
 {
     let mut layers = Vec::new(alloc);
@@ -54,10 +54,10 @@ fn layers_of(
 
 // The least of these processes to which an arrow leads from process i.
 fn least_next(rows: &Bits, set: &BitRow, i: usize) -> usize
-    requires i { i < 256 }
-    requires count { length rows.now ≡ 256 }
-    requires some { (k : ℕ) × (k < 256) × IsNext rows.now set.now i k }
-    ensures within { result < 256 }
+    requires i { i < columns }
+    requires count { length rows.now ≡ columns }
+    requires some { (k : ℕ) × (k < columns) × IsNext rows.now set.now i k }
+    ensures within { result < columns }
     ensures next { IsNext rows.now set.now i result }
     ensures least { (k : ℕ) → k < result → IsNext rows.now set.now i k → ⊥ }
 {
@@ -75,8 +75,8 @@ fn cycle_through(
     layers: &[BitRow],
     first: usize,
 ) -> Result<Vec<u32>, AllocError>
-    requires first { first < 256 }
-    requires count { length rows.now ≡ 256 }
+    requires first { first < columns }
+    requires count { length rows.now ≡ columns }
     requires layers { (arrow : Arrow) × HasArrows arrow rows.now × AreShortest arrow first layers.now }
     ensures { IfOk result (λ cycle. (arrow : Arrow) → HasArrows arrow rows.now → AreShortest arrow first layers.now
         → (others : List ℕ) × (cycle.items ≡ first ∷ others) × (length others + 1 ≡ length layers.now)
@@ -96,7 +96,7 @@ fn cycle_through(
 
 // The told cycle of these arrows, if there is one. So many processes are looked at.
 fn first_cycle(alloc: Global, rows: &Bits, most: usize) -> Result<Option<Vec<u32>>, AllocError>
-    requires count { length rows.now ≡ 256 }
+    requires count { length rows.now ≡ columns }
     ensures { IfOk result (λ found. (arrow : Arrow) (all : List ℕ) → HasArrows arrow rows.now → HasAll arrow all → length all ≤ most
         → FindsCycle arrow all found) }
 {

@@ -16,6 +16,6 @@ mod ordering;
 mod placing;
 mod taking;
 
-pub use auditing::audit;
+pub use auditing::{MOST_EVENTS, audit};
 pub use dependence_model::Placed;
 pub use judging::Audited;

@@ -6,7 +6,7 @@ ghost use Rattle.schedule_model.specs.Histories.{of_process};
 ghost use Rattle.dependence_model.specs.Dependence.{entries_of, processes_of};
 ghost use Rattle.dependence_model.specs.SerialOrder.{first_free, one_by_one, order_of, ordered};
 ghost use Rattle.audit_core.specs.Taking.{AreAllKnown};
-ghost use Rattle.audit_core.specs.Arrows.{AreBelow, AreFew, arrow_in};
+ghost use Rattle.audit_core.specs.Arrows.{AreBelow, AreFew, arrow_in, columns};
 
 use crate::arrowing::arrows;
 use bit_rows::Bits;
@@ -17,8 +17,8 @@ use std::alloc::{AllocError, Global};
 // Whether an arrow leads to a process from one of these.
 fn is_led_to(rows: &Bits, from: &[u32], to: u32) -> bool
     requires from { AreBelow from.now }
-    requires to { to < 256 }
-    requires count { length rows.now ≡ 256 }
+    requires to { to < columns }
+    requires count { length rows.now ≡ columns }
     ensures { result ≡ list_any (λ j. arrow_in rows.now j to) from.now }
 {
     let mut rest = from;
@@ -34,7 +34,7 @@ fn is_led_to(rows: &Bits, from: &[u32], to: u32) -> bool
 // The first of these processes to which no arrow leads from one of them.
 fn first_free(rows: &Bits, all: &[u32]) -> Option<u32>
     requires all { AreBelow all.now }
-    requires count { length rows.now ≡ 256 }
+    requires count { length rows.now ≡ columns }
     ensures { result ≡ first_free (arrow_in rows.now) all.now all.now }
 {
     let mut rest = all;
@@ -70,7 +70,7 @@ fn take_out(all: &mut Vec<u32>, i: u32)
 // Processes in order: each time the first to which no arrow leads from those that aren't in place yet.
 fn ordered(alloc: Global, rows: &Bits, all: Vec<u32>, most: usize) -> Result<Vec<u32>, AllocError>
     requires all { AreBelow all.items }
-    requires count { length rows.now ≡ 256 }
+    requires count { length rows.now ≡ columns }
     ensures { IfOk result (λ order. order.items ≡ ordered most (arrow_in rows.now) all.items) }
 {
     let mut order = Vec::new(alloc);

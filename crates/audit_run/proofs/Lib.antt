@@ -1,3 +1,4 @@
+mod Ruled
 mod SameNames
 mod Refusals
 mod Starting

@@ -1,5 +1,5 @@
 -- The history of a journal under other conflicts.
-use Rattle.std.proofs.Common.{◌≡◌, ◌<◌, ◌≤◌, ◌⊎◌, inl, inr, ℕ, List, [], length, refl, sym, subst}
+use Rattle.std.proofs.Common.{◌≡◌, ◌<◌, ◌≤◌, ◌⊎◌, inl, inr, ℕ, [], length, refl, sym, subst}
 use Rattle.std.specs.Bool.{IsTrue}
 use Rattle.std.proofs.lemmas.Bool.{and_parts, cases_lt}
 use Rattle.process_tree.specs.Conflicts.{do_conflict, mode_of}
@@ -9,7 +9,7 @@ use Rattle.schedule_model.specs.declared.history.History.{History}
 use Rattle.schedule_model.specs.Course.{courses_of}
 use Rattle.schedule_model.specs.Legal.{is_legal, may_come}
 use Rattle.schedule_model.specs.Limits.{is_within_limits}
-use Rattle.schedule_model.specs.OwnOrder.{keeps_order}
+use Rattle.schedule_model.specs.OwnOrder.{is_in_own_order, keeps_order}
 use Rattle.schedule_model.proofs.Induction.{first_failing-all}
 use Rattle.schedule_model.proofs.NoConflict.{own_order-legal}
 use Rattle.process_journal.specs.Journals.{IsHistoryUnder}
@@ -45,3 +45,7 @@ pub journals_in_own_order : JournalsAreInOwnOrder
 journals_in_own_order own h good =
     first_failing-all (keeps_order (courses_of h.plans)) 1 [] h.events
     (own_order-legal (courses_of h.plans) (do_conflict own.conflicts) h.events (legal_of own h good))
+
+-- the same, as it is asked for
+pub history_in_own_order : (own : Catalog) (h : History) → IsHistoryUnder own h → IsTrue (is_in_own_order (courses_of h.plans) h.events)
+history_in_own_order own h good = own_order-legal (courses_of h.plans) (do_conflict own.conflicts) h.events (legal_of own h good)

@@ -1,5 +1,5 @@
 -- The command `audit --history`: would the history of file 0 still be allowed under the conflicts of another scenario?
-use Rattle.std.specs.Prelude.{◌≡◌, ◌⊎◌, ℕ, ◌-◌, Bool, true, false, List, [], ◌∷◌, ◌++◌, length, map, codes, decimal, Vec}
+use Rattle.std.specs.Prelude.{◌≡◌, ◌⊎◌, ℕ, ◌-◌, Bool, true, false, List, [], ◌++◌, length, map, codes, decimal, Vec}
 use Rattle.std.specs.Prelude.{if◌then◌else◌, Option, Some, None, Result, Ok, Err}
 use Rattle.std.specs.declared.alloc.Global.{Global}
 use Rattle.std.specs.List.{slice_get}
@@ -9,8 +9,10 @@ use Rattle.process_tree.specs.declared.plan.Plan.{Plan}
 use Rattle.commute_table.specs.declared.catalog.Catalog.{Catalog}
 use Rattle.schedule_model.specs.Course.{courses_of}
 use Rattle.schedule_model.specs.Legal.{first_illegal}
-use Rattle.schedule_model.specs.declared.event.Event.{Event}
 use Rattle.schedule_model.specs.declared.history.History.{History}
+use Rattle.machine_model.specs.declared.blocked.Rule.{Rule}
+use Rattle.event_rules.specs.Refusing.{refusing_rule}
+use Rattle.process_report.specs.Blocks.{rule_word}
 use Rattle.process_report.specs.Lines.{event_line, text_of}
 use Rattle.process_report.specs.Names.{op_name}
 use Rattle.process_report.specs.Report.{form_of}
@@ -40,11 +42,29 @@ log_in h = record { started = h.plans; events = h.events }
 abbrev pub first_refused : Catalog → History → Option ℕ
 first_refused c h = first_illegal (do_conflict c.conflicts) (courses_of h.plans) h.events
 
--- `legal`, or `not legal at N` and the line of that event
+-- the rule by which the event at a place is refused
+abbrev pub rule_at : Catalog → History → ℕ → Option Rule
+rule_at c h n = refusing_rule (do_conflict c.conflicts) (courses_of h.plans) h.events n
+
+-- this is the rule of the first event that may not come, if there is one
+abbrev pub IsRuleOf : Catalog → History → Option ℕ → Option Rule → Type 0
+IsRuleOf c h None rule = rule ≡ None
+IsRuleOf c h (Some n) rule = (r : Rule) × (rule ≡ Some r) × (rule_at c h n ≡ Some r)
+
+-- the first event that may not come is refused by a rule
+abbrev pub AreRuled : Catalog → History → Type 0
+AreRuled c h = (n : ℕ) → first_refused c h ≡ Some n → (rule : Rule) × (rule_at c h n ≡ Some rule)
+
+-- ` rule R`
+abbrev pub rule_part : Option Rule → List ℕ
+rule_part None = []
+rule_part (Some rule) = codes " rule " ++ rule_word rule
+
+-- `legal`, or `not legal at N rule R` and the line of that event
 abbrev pub legality_text : Catalog → History → Option ℕ → List ℕ
 legality_text c h None = codes "legal\n"
 legality_text c h (Some n) =
-    (codes "not legal at " ++ decimal n ++ codes "\n")
+    (codes "not legal at " ++ decimal n ++ rule_part (rule_at c h n) ++ codes "\n")
     ++ text_of (map (event_line (form_of c) h.plans c.ops) (option_to_list (slice_get h.events (n - 1))))
 
 -- it has more events, or its processes more steps, than an audit takes
@@ -71,6 +91,7 @@ verdict_status (Some n) outcome = outcome_status outcome
 
 -- What is said of a history under a catalog of its operations: whether it is legal, and what an audit finds.
 pub record IsJudgedBy (c : Catalog) (h : History) (text : List ℕ) (status : Status) : Type 0 where
+  pub ruled : AreRuled c h
   pub outcome : Outcome
   pub found : IsOutcome c (log_in h) outcome
   pub printed : text ≡ legality_text c h (first_refused c h) ++ verdict_text c h (first_refused c h) outcome

@@ -1,5 +1,5 @@
 // The command over the history of file 0.
-ghost use Rattle.std.specs.Prelude.{◌≡◌, ◌≢◌, ◌++◌, true, false, length, codes, IfOk, IfErr};
+ghost use Rattle.std.specs.Prelude.{◌≡◌, ◌≢◌, ◌++◌, true, false, length, codes, IfOk, IfErr, IsTrue};
 ghost use Rattle.commute_table.specs.Operations.{IsCatalog};
 ghost use Rattle.process_disk.specs.Disk.{Told};
 ghost use Rattle.process_disk.specs.Images.{AllAsBefore};
@@ -14,7 +14,9 @@ ghost use Rattle.command_refusals.specs.declared.status.Status.TheVariants.{BadI
 ghost use Rattle.audit_text.specs.Logs.{plans_in};
 ghost use Rattle.audit_run.specs.History.{found_text, is_beyond, log_in, verdict_status, verdict_text, IsHistoryAuditDue};
 ghost use Rattle.audit_run.specs.History.{IsHistorySaid, IsJudgedBy, IsToldOf};
-ghost use Rattle.audit_run.specs.History.{first_refused, legality_text};
+ghost use Rattle.audit_run.specs.History.{first_refused, legality_text, AreRuled};
+ghost use Rattle.schedule_model.specs.Course.{courses_of};
+ghost use Rattle.schedule_model.specs.OwnOrder.{is_in_own_order};
 ghost use Rattle.named_conflicts.specs.Under.{HasItsTable};
 ghost use Rattle.commute_table.specs.declared.catalog.Catalog.{Catalog};
 ghost use Rattle.journal_input.specs.Opening.{IsNotOpened, IsOpened};
@@ -105,6 +107,7 @@ fn said_behind(
     requires planned { IsPlanned (length c.now.ops) h.now.plans h.now.events }
     requires first { first ≡ first_refused c.now h.now }
     requires text { text.items ≡ legality_text c.now h.now first }
+    requires ruled { AreRuled c.now h.now }
     ensures { IfOk result (λ s. IsJudgedBy c.now h.now s.text.items s.status) }
 {
     let log = log_in(alloc, h)?;
@@ -121,6 +124,7 @@ fn said_behind(
 fn judged_by(alloc: Global, c: &Catalog, h: &History) -> Result<Said, AllocError>
     requires table { HasItsTable c.now }
     requires planned { IsPlanned (length c.now.ops) h.now.plans h.now.events }
+    requires own_order { IsTrue (is_in_own_order (courses_of h.now.plans) h.now.events) }
     ensures { IfOk result (λ s. IsJudgedBy c.now h.now s.text.items s.status) }
 {
     let first = first_refused(alloc, c, h)?;

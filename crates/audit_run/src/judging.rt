@@ -6,15 +6,12 @@ ghost use Rattle.audit_text.specs.Logs.{plans_in};
 ghost use Rattle.named_conflicts.specs.Under.{HasItsTable};
 ghost use Rattle.audit_run.specs.Outcomes.{outcome_status, steps_in, IsOutcome, IsWithin};
 
-use audit_core::{Audited, audit};
+use audit_core::{Audited, MOST_EVENTS, audit};
 use audit_text::{Log, history_of, out_of_order};
 use command_refusals::Status;
 use commute_table::Catalog;
 use process_tree::Plan;
 use std::alloc::{AllocError, Global};
-
-// How many events an audit takes.
-const MOST_EVENTS: usize = 128;
 
 // How many steps the processes of a log may have together.
 const MOST_STEPS: usize = 256;

@@ -1,6 +1,6 @@
 // The pages of help.
 
-pub(crate) const COMMANDS: &str = "usage: tps COMMAND
+pub(crate) const COMMANDS: &str = "usage: tps [-C FOLDER] COMMAND [FILE]
 
   check              tells of each process of a text whether it can get stuck
   init [--values]    makes the files for the operations of a scenario
@@ -17,11 +17,13 @@ pub(crate) const COMMANDS: &str = "usage: tps COMMAND
   help [COMMAND]     prints this page, or the page of a command
   version            prints the version
 
-A command reads standard input and works on the files tps.0 to tps.8 of the
-current folder. The last line and the exit status tell how it went.
+A command reads FILE or standard input, and works on the files tps.0 to tps.8
+of FOLDER or the current folder. The last line and the exit status tell how it
+went: 14 another program has the folder, 15 you may not open a file, 16 it is
+no file, 17 it is not there.
 ";
 
-pub(crate) const CHECK: &str = "usage: tps check < PROCESSES
+pub(crate) const CHECK: &str = "usage: tps check [FILE | < PROCESSES]
 
 Reads a process text, and prints a line for each process:
   NAME: well-formed                  it ends on a whole path or in nothing
@@ -32,7 +34,7 @@ exit status: 0 all are well-formed, 3 one is not, 2 the text has a fault,
 4 a limit is passed
 ";
 
-pub(crate) const INIT: &str = "usage: tps init [--values] < SCENARIO
+pub(crate) const INIT: &str = "usage: tps init [--values] [FILE | < SCENARIO]
 
 Makes the files tps.0 to tps.8 of the current folder for the operations and
 conflicts of a scenario, and prints 'created'. Its processes are not read.
@@ -43,7 +45,7 @@ exit status: 0 made, 2 the scenario has a fault or leaves out such a conflict,
 4 a limit is passed, 6 a file is not empty
 ";
 
-pub(crate) const RUN: &str = "usage: tps run [--workers N] < SCENARIO
+pub(crate) const RUN: &str = "usage: tps run [--workers N] [FILE | < SCENARIO]
 
 Starts each process of a scenario once, works until all have ended, with N
 workers at a time (1 to 16, else 1), and prints the report. The files have to
@@ -54,7 +56,7 @@ files, 3 a process is not well-formed, 4 a limit is passed, 5 a process of the
 files is unfinished, 6 or 7 the files are damaged, 11 tries are used up
 ";
 
-pub(crate) const SESSION: &str = "usage: tps session < INPUT
+pub(crate) const SESSION: &str = "usage: tps session [FILE | < INPUT]
 
 Reads a scenario, a line '%%' and then event lines, and answers these:
   start NAME    admit I    next    finish N done    finish N refused
@@ -103,7 +105,7 @@ matter to the books, 5 a process is unfinished, 6 the files are damaged or were
 not made, 10 the disk failed
 ";
 
-pub(crate) const VERIFY: &str = "usage: tps verify < REPORT
+pub(crate) const VERIFY: &str = "usage: tps verify [FILE | < REPORT]
 
 Applies the printed steps of a report to its history, and prints 'accepted'
 where they lead to its serial list. It reads no file.
@@ -112,7 +114,7 @@ exit status: 0 accepted, 2 a line has no form, 12 a step, a place or the list
 is wrong
 ";
 
-pub(crate) const AUDIT: &str = "usage: tps audit [--history] < INPUT
+pub(crate) const AUDIT: &str = "usage: tps audit [--history] [FILE | < INPUT]
 
 Reads a scenario, a line '%%' and then a log of what another scheduler did, in
 lines 'start NAME', 'do I.STEP', 'undo I.STEP' and 'end I'. It prints the serial
@@ -120,7 +122,7 @@ list where each beginning of the log can be reduced, and else what is left of
 the least beginning that can't. It reads no file.
 With --history the input is a scenario alone, and the log is the history of the
 files. It first says whether the conflicts of the scenario allow each event:
-'legal', or 'not legal at N' and the first event that they don't.
+'legal', or 'not legal at N rule R' and the first event that they don't.
 
 exit status: 0 it can be reduced, 2 the scenario or a line has a fault, or the
 log leaves the order of a process, 3 a process is not well-formed, 4 a limit is

@@ -4,6 +4,7 @@ ghost use Rattle.std.specs.Prelude.{◌≡◌};
 use crate::calls::words_of;
 use crate::expected::must;
 use crate::show::{SHOWN, TEXT, TWO_STEPS_KEPT};
+use call_words::call_parts;
 use file_rack::{Access, FileRack, Folder, MemoryFolder, SystemFolder};
 use gate_log::Log;
 use process_disk::{MemoryRack, Rack};
@@ -57,7 +58,10 @@ fn expect_on<H: Abort + Threads + Wait + Sync, D: Folder + Drop + Send>(
 ) -> FileRack<D>
     requires { D.access folder ≡ Access.Unentered }
 {
-    let args = must(rt, words_of(alloc, &["tps", call.word])).into_iter();
+    let words = must(rt, words_of(alloc, &[call.word]));
+    let Ok(parts) = call_parts(alloc, &words) else {
+        panic!(rt; "no memory");
+    };
     let source = MemorySource::new(must(rt, call.text.to_vec(alloc)), Vec::new(alloc));
     let mut sink = MemorySink::new(alloc, Vec::new(alloc));
     // Nothing of what is said beside the answer goes out, and the answer is the same.
@@ -65,7 +69,7 @@ fn expect_on<H: Abort + Threads + Wait + Sync, D: Folder + Drop + Send>(
     let Ended { code, source, rack } = program(
         rt,
         alloc,
-        Ok(args),
+        &parts,
         source,
         &mut sink,
         &mut errors,
@@ -105,8 +109,8 @@ const BESIDE: [Call<'static>; 2] = [
     Call {
         word: "run",
         text: TEXT,
-        code: 10,
-        output: b"disk fault\n",
+        code: 14,
+        output: b"folder in use\n",
     },
     Call {
         word: "show",

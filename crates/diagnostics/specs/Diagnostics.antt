@@ -13,6 +13,8 @@ use Rattle.command_input.specs.Outputs.{Output, IsTold}
 use Rattle.refusal_hints.specs.declared.documents.InputForm.{InputForm}
 use Rattle.refusal_hints.specs.declared.documents.InputForm.TheVariants.{Processes, Scenario}
 use Rattle.refusal_hints.specs.Hints.{IsHint, hint_text}
+use Rattle.refusal_hints.specs.Pointing.{nowhere}
+use Rattle.refusal_hints.specs.Remedies.{ending_hint, starved_hint}
 use Rattle.scenario_warnings.specs.Warnings.{warnings}
 use Rattle.scenario_warnings.specs.Lines.{shown}
 
@@ -29,10 +31,10 @@ form_of words = if first_is (codes "check") words then Processes else Scenario
 abbrev pub warns : List (List ℕ) → ℕ → Bool
 warns words number = first_is (codes "init") words && nat_eq number (number_of Done)
 
--- the hint of a refusal of this input; where the input isn't known, the same without a place
+-- the hint of a refusal of this input; where the input doesn't fit, the same without a place
 abbrev pub IsHintOf : InputForm → Option (List ℕ) → Refusal → List ℕ → Type 0
 IsHintOf form (Some input) r text = IsHint form input r text
-IsHintOf form None r text = text ≡ hint_text None r
+IsHintOf form None r text = text ≡ hint_text nowhere r
 
 -- the warnings of the scenario that this input is; nothing where it has no processes that can be played, or memory was wanting
 abbrev pub AreWarningsIn : List ℕ → List ℕ → Type 0
@@ -40,24 +42,33 @@ AreWarningsIn input text =
     ((c : Catalog) × (plans : List Plan) × IsBound input c plans × (text ≡ shown c.ops plans (warnings c plans)))
     ⊎ ((none : NoPlans) × IsNotBound input none × (text ≡ []))
 
--- the same of an input that may not be known
+-- the same of an input that may not fit
 abbrev pub AreWarningsOf : Option (List ℕ) → List ℕ → Type 0
 AreWarningsOf (Some input) text = AreWarningsIn input text
 AreWarningsOf None text = text ≡ []
 
--- so where warnings are looked for, and else nothing
-abbrev pub AreWarningsIf : Bool → Option (List ℕ) → List ℕ → Type 0
-AreWarningsIf true input text = AreWarningsOf input text
-AreWarningsIf false input text = text ≡ []
+-- so where warnings are looked for, and else what there is to say of a status of this number
+abbrev pub IsAboutEnd : Bool → ℕ → Option (List ℕ) → List ℕ → Type 0
+IsAboutEnd true number input text = AreWarningsOf input text
+IsAboutEnd false number input text = text ≡ ending_hint number
 
 -- what there is to say beside an answer on these words, at a status of this number, with this refusal or none, of an input: the
--- hint of the refusal, or the warnings, or nothing
+-- hint of the refusal, or the warnings, or what is to be said of the status
 abbrev pub IsBeside : List (List ℕ) → ℕ → Option Refusal → Option (List ℕ) → List ℕ → Type 0
 IsBeside words number (Some r) input text = IsHintOf (form_of words) input r text
-IsBeside words number None input text = AreWarningsIf (warns words number) input text
+IsBeside words number None input text = IsAboutEnd (warns words number) number input text
 
--- it was said: it went out, or the sink failed, and a beginning of it did; or memory was wanting for it, and nothing went out
+-- whether memory may be wanting for it
+abbrev pub takes_memory : List (List ℕ) → ℕ → Option Refusal → Bool
+takes_memory words number (Some r) = true
+takes_memory words number None = warns words number
+
+-- it is this; or memory was wanting for it, and this says so
+abbrev pub IsBesideOrStarved : List (List ℕ) → ℕ → Option Refusal → Option (List ℕ) → List ℕ → Type 0
+IsBesideOrStarved words number refused input text =
+    IsBeside words number refused input text ⊎ ((takes_memory words number refused ≡ true) × (text ≡ starved_hint))
+
+-- that was said: it went out, or the sink failed, and a beginning of it did
 abbrev pub IsSaidBeside : List (List ℕ) → ℕ → Option Refusal → Option (List ℕ) → Output → Output → Type 0
 IsSaidBeside words number refused input out out_after =
-    ((text : List ℕ) × IsBeside words number refused input text × ((at : Status) × IsTold Done text out out_after at))
-    ⊎ (out_after ≡ out)
+    (text : List ℕ) × IsBesideOrStarved words number refused input text × ((at : Status) × IsTold Done text out out_after at)

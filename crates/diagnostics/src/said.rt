@@ -1,7 +1,7 @@
 // What is said beside an answer.
-ghost use Rattle.std.specs.Prelude.{◌≡◌, map, string_bytes, IfOk};
+ghost use Rattle.std.specs.Prelude.{◌≡◌, map, string_bytes, true, IfOk};
 ghost use Rattle.std.specs.Option.{option_map};
-ghost use Rattle.diagnostics.specs.Diagnostics.{first_is, form_of, warns, AreWarningsIn, AreWarningsOf, IsBeside, IsHintOf};
+ghost use Rattle.diagnostics.specs.Diagnostics.{first_is, form_of, takes_memory, warns, AreWarningsIn, AreWarningsOf, IsBeside, IsHintOf};
 
 use command_input::{Bound, scenario_of};
 use command_refusals::Refusal;
@@ -37,7 +37,7 @@ fn warns(words: &[String], status: u8) -> bool
     first_is(words, "init") && status == 0
 }
 
-// The hint of a refusal of this input, where it is known.
+// The hint of a refusal of this input, where it fits.
 fn hint_of(
     alloc: Global,
     form: InputForm,
@@ -65,7 +65,7 @@ fn warnings_in(alloc: Global, input: &[u8]) -> Result<Vec<u8>, AllocError>
     }
 }
 
-// The same of an input that may not be known.
+// The same of an input that may not fit.
 fn warnings_of(alloc: Global, input: Option<Vec<u8>>) -> Result<Vec<u8>, AllocError>
     ensures { IfOk result (λ text. AreWarningsOf (option_map (λ i. i.items) input) text.items) }
 {
@@ -75,7 +75,18 @@ fn warnings_of(alloc: Global, input: Option<Vec<u8>>) -> Result<Vec<u8>, AllocEr
     }
 }
 
-/// What there is to say beside an answer.
+/// Whether memory may be wanting for what there is to say.
+pub(crate) fn takes_memory(words: &[String], status: u8, refused: &Option<Refusal>) -> bool
+    ensures { result ≡ takes_memory (map string_bytes words.now) status refused.now }
+{
+    match refused {
+        Some(_) => true,
+        None => warns(words, status),
+    }
+}
+
+/// What there is to say beside an answer, where memory may be wanting for it.
+#[tactic(auto, using(crate::proofs::Beside::warned))]
 pub(crate) fn beside(
     alloc: Global,
     words: &[String],
@@ -83,12 +94,12 @@ pub(crate) fn beside(
     refused: Option<Refusal>,
     input: Option<Vec<u8>>,
 ) -> Result<Vec<u8>, AllocError>
+    requires { takes_memory (map string_bytes words.now) status refused ≡ true }
     ensures { IfOk result
         (λ text. IsBeside (map string_bytes words.now) status refused (option_map (λ i. i.items) input) text.items) }
 {
     match refused {
         Some(refusal) => hint_of(alloc, form_of(words), input, &refusal),
-        None if warns(words, status) => warnings_of(alloc, input),
-        None => Ok(Vec::new(alloc)),
+        None => warnings_of(alloc, input),
     }
 }

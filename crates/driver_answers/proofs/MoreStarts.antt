@@ -1,58 +1,34 @@
--- An engine that went on went on whichever more plans may start.
-use Rattle.std.proofs.Common.{◌⊎◌, ℕ, List, [], ◌∷◌, ◌++◌, inl, inr}
-use Rattle.std.proofs.lemmas.List.Elements.{Contains-append_left, Contains-append_right}
+-- Which starts may have been under way as an engine went on.
+use Rattle.std.proofs.Common.{◌≡◌, ℕ, List, [], ◌∷◌, Option, Some, None, refl, subst, sym}
 use Rattle.process_disk.specs.declared.rack.Rack.{Ghosts as Racks}
-use Rattle.process_disk.specs.Disk.{Disk, FileSet, Told}
+use Rattle.process_disk.specs.Disk.{Told}
 use Rattle.process_disk.specs.Images.{EachImage}
+use Rattle.process_tree.specs.Order.{Each}
 use Rattle.process_tree.specs.declared.plan.Plan.{Plan}
-use Rattle.schedule_model.specs.declared.event.Event.{Event}
-use Rattle.schedule_model.specs.declared.history.History.{History}
 use Rattle.commute_table.specs.declared.catalog.Catalog.{Catalog}
-use Rattle.process_core.specs.Cores.{CoreState, IsCore, history_of}
-use Rattle.process_journal.specs.Laws.{beginning}
+use Rattle.process_core.specs.Cores.{IsCore, history_of}
 use Rattle.history_files.specs.Sound.{IsSound}
 use Rattle.engine_steps.specs.Engines.{EngineState, full_history}
 use Rattle.engine_steps.specs.declared.engines.Phase.{Phase}
-use Rattle.engine_calls.specs.Acknowledged.{ComeInTurn, IsOneAhead, IsOneOf, IsUnderWay}
+use Rattle.engine_steps.specs.declared.engines.Phase.TheVariants.{Settled, Closed}
+use Rattle.engine_calls.specs.Acknowledged.{IsOneAhead, IsOneOf}
 use Rattle.engine_calls.specs.Runs.{GoesOn}
+use Rattle.engine_calls.proofs.Acknowledged.{in_turn_so}
 use Rattle.engine_calls.proofs.Goes.{goes_none}
+use Rattle.scenario_run.proofs.OneOf.{stands_among}
+use Rattle.session_text.specs.declared.line.Line.{Line}
+use Rattle.session_play.specs.Playing.{plan_for}
+use Rattle.driver_requests.specs.Requests.{request_of}
+use Rattle.driver_requests.specs.declared.request.Request.TheVariants.{Session}
+use Rattle.driver_answers.specs.Serving.{AsksToStart}
 
--- each of the first plans is one of the second
-abbrev pub AreAmong : List Plan → List Plan → Type 0
-AreAmong may may' = (p : Plan) → IsOneOf may p → IsOneOf may' p
+-- an engine that is settled isn't closed
+isnt_closed : (on : Phase) → on ≡ Settled → on ≡ Closed → ⊥
+isnt_closed on settled closed = absurd cc
 
--- a plan is one of those before others,
-pub one_of_left : (plans more : List Plan) → AreAmong plans (plans ++ more)
-one_of_left plans more p (q, among, equal) = (q, Contains-append_left plans more q among, equal)
-
--- or of those behind others
-pub one_of_right : (plans more : List Plan) → AreAmong more (plans ++ more)
-one_of_right plans more p (q, among, equal) = (q, Contains-append_right plans more q among, equal)
-
-module _ (may may' : List Plan) (more : AreAmong may may') where
-  under_way : (core : CoreState) (h : History) → IsUnderWay may core h → IsUnderWay may' core h
-  under_way core h (inl piece) = inl piece
-  under_way core h (inr (inl (p, one, free, is))) = inr (inl (p, more p one, free, is))
-  under_way core h (inr (inr group)) = inr (inr group)
-
-  -- what may be ahead,
-  ahead : (c : Catalog) (core : CoreState) (on : Phase) (files : FileSet) → IsOneAhead c may core on files → IsOneAhead c may' core on files
-  ahead c core on files (closed, way) = (closed, (way.0, under_way core way.0 way.1, way.2))
-
-  module _ (c : Catalog) (h : History) (core : CoreState) (on : Phase) (disk : Disk) where
-    -- of one image,
-    sound_or_ahead : (there : List Event) (files : FileSet) → IsSound c (beginning h there) files ⊎ IsOneAhead c may core on files → IsSound c (beginning h there) files ⊎ IsOneAhead c may' core on files
-    sound_or_ahead there files (inl sound) = inl sound
-    sound_or_ahead there files (inr is) = inr (ahead c core on files is)
-
-    -- and of the images behind each group that came
-    in_turn : (came : List (ℕ × List Event)) (there : List Event) (t : ℕ) → ComeInTurn c h (IsOneAhead c may core on) disk there t came → ComeInTurn c h (IsOneAhead c may' core on) disk there t came
-    in_turn [] there t each = record { has = λ files left. sound_or_ahead there files (each.has files left) }
-    in_turn (e ∷ came) there t (some, until, rest) = (some, until, in_turn came (there ++ e.1) e.0 rest)
-
--- It went on, whichever more may start.
-pub goes_wider : {R B : Type 0} (racks : Racks R) (old new : EngineState R B) (may may' : List Plan) → AreAmong may may' → GoesOn racks may old new → GoesOn racks may' old new
-goes_wider racks old new may may' more goes = record {
+-- One that is settled went on whichever plans may start, since no image is ahead of it.
+pub goes_settled : {R B : Type 0} (racks : Racks R) (may may' : List Plan) (old new : EngineState R B) → new.phase ≡ Settled → GoesOn racks may old new → GoesOn racks may' old new
+goes_settled racks may may' old new settled goes = record {
   catalog = goes.catalog;
   conflicts = goes.conflicts;
   opening = goes.opening;
@@ -65,10 +41,26 @@ goes_wider racks old new may may' more goes = record {
   tells = goes.tells;
   later = goes.later;
   follow = goes.follow;
-  images = λ told. in_turn may may' more new.catalog (full_history new.core) new.core new.phase (racks.disk new.files.rack) goes.came (history_of old.core) (racks.disk old.files.rack).moment (goes.images told);
+  images = λ told. in_turn_so new.catalog (full_history new.core) (IsOneAhead new.catalog may new.core new.phase) (IsOneAhead new.catalog may' new.core new.phase) (racks.disk new.files.rack)
+      (λ files ahead. absurd (isnt_closed new.phase settled ahead.0)) goes.came (history_of old.core) (racks.disk old.files.rack).moment (goes.images told);
 }
 
--- So did one that nothing was asked of.
-pub goes_at_rest : {R B : Type 0} (racks : Racks R) (plans : List Plan) (e : EngineState R B) → IsCore e.core
-    → (Told (racks.disk e.files.rack) → EachImage (racks.disk e.files.rack) (racks.disk e.files.rack).moment (IsSound e.catalog (full_history e.core))) → (more : List Plan) × GoesOn racks (plans ++ more) e e
-goes_at_rest racks plans e core each = ([], goes_none racks (plans ++ []) e core each)
+-- So it is of one that nothing was asked of.
+pub goes_at_rest : {R B : Type 0} (racks : Racks R) (Asked : Plan → Type 0) (e : EngineState R B) → IsCore e.core
+    → (Told (racks.disk e.files.rack) → EachImage (racks.disk e.files.rack) (racks.disk e.files.rack).moment (IsSound e.catalog (full_history e.core)))
+    → (asked : List Plan) × Each Asked asked × GoesOn racks asked e e
+goes_at_rest racks Asked e core each = ([], tt, goes_none racks [] e core each)
+
+-- One that a line of a session was asked of went on whichever more may start than the plan that the line takes.
+pub goes_by_session : {R B : Type 0} (racks : Racks R) (c : Catalog) (plans : List Plan) (line : List ℕ) (l : Line) (old new : EngineState R B) → request_of line ≡ Some (Session l)
+    → ((may : List Plan) → ((p : Plan) → plan_for plans l ≡ Some p → IsOneOf may p) → GoesOn racks may old new)
+    → (asked : List Plan) × Each (AsksToStart c plans line (request_of line)) asked × GoesOn racks asked old new
+goes_by_session racks c plans line l old new form goes = by (plan_for plans l) refl
+  where
+    by : (o : Option Plan) → plan_for plans l ≡ o → (asked : List Plan) × Each (AsksToStart c plans line (request_of line)) asked × GoesOn racks asked old new
+    by None none = ([], tt, goes [] (λ p some. absurd (cc)))
+    by (Some q) is = (
+      q ∷ [],
+      (subst (λ r. AsksToStart c plans line r q) (sym form) is, tt),
+      goes (q ∷ []) (λ p some. let same : q ≡ p = cc in subst (IsOneOf (q ∷ [])) same (stands_among [] [] q)),
+    )

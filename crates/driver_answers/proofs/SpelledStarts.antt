@@ -1,5 +1,5 @@
 -- Starts of processes that lines spell.
-use Rattle.std.proofs.Common.{◌≡◌, ◌≢◌, ◌∙◌, ◌⊎◌, ℕ, List, [], ◌∷◌, length, Option, Some, None, inl, inr, refl, ap, subst, sym}
+use Rattle.std.proofs.Common.{◌≡◌, ◌≢◌, ◌∙◌, ◌⊎◌, ℕ, List, [], ◌∷◌, length, Option, Some, None, inl, inr, refl, ap, subst}
 use Rattle.process_tree.specs.Order.{Each}
 use Rattle.process_tree.proofs.Every.{Each-weaker}
 use Rattle.process_tree.specs.declared.plan.Plan.{Plan}
@@ -13,9 +13,7 @@ use Rattle.machine_model.specs.declared.replies.StartWhy.{StartWhy}
 use Rattle.process_core.specs.Cores.{CoreState, courses_in, moment_of}
 use Rattle.engine_steps.specs.Beginning.{IsPlanFor}
 use Rattle.engine_steps.specs.Engines.{EngineState}
-use Rattle.engine_calls.specs.Acknowledged.{IsOneOf}
 use Rattle.command_input.specs.Scenarios.{AreGoodPlans}
-use Rattle.scenario_run.proofs.OneOf.{stands_among}
 use Rattle.scenario_run.proofs.ScenarioPlans.{plans_start}
 use Rattle.session_play.specs.Answering.{IsAnswered, IsCut}
 use Rattle.session_play.specs.Pieces.{session_of}
@@ -29,10 +27,6 @@ use Rattle.driver_answers.specs.Serving.{IsSpelledAnswered}
 pub good_start : (c : Catalog) (text : List ℕ) (plans : List Plan) → AreGoodPlans c.ops text plans → Each (IsPlanFor c) plans
 good_start c text plans good =
     Each-weaker (λ p. IsPlanFor c p × IsGoodPlan p) (IsPlanFor c) (λ p both. both.0) plans (plans_start c good.0 plans good.2 good.1.trees good.3)
-
--- The only one is one of them.
-pub only_is_one : (plans : List Plan) (p : Plan) → plans ≡ p ∷ [] → IsOneOf plans p
-only_is_one plans p is = subst (λ ps. IsOneOf ps p) (sym is) (stands_among [] [] p)
 
 module _ (old new : CoreState) (plan : Plan) where
   core_by : (o : Option StartWhy) (ps qs : List Handed) → (start_unless (session_of old [] []) plan.name plan o).state.core ≡ (start_unless (session_of old ps qs) plan.name plan o).state.core

@@ -137,6 +137,15 @@ LeadsTo c plans s line (Some Pieces) core = core ≡ s.core
 LeadsTo c plans s line (Some (Happened i name)) core = core ≡ s.core
 LeadsTo c plans s line (Some (Started name)) core = core ≡ s.core
 
+-- the plan of a process that a line asks to start: that of the scenario which has the name, or the one that the line spells
+abbrev pub AsksToStart : Catalog → List Plan → List ℕ → Option Request → Plan → Type 0
+AsksToStart c plans line None p = ⊥
+AsksToStart c plans line (Some (Session l)) p = plan_for plans l ≡ Some p
+AsksToStart c plans line (Some StartSpelled) p = AreGoodPlans c.ops (drop 6 line) (p ∷ [])
+AsksToStart c plans line (Some Pieces) p = ⊥
+AsksToStart c plans line (Some (Happened i name)) p = ⊥
+AsksToStart c plans line (Some (Started name)) p = ⊥
+
 -- It was not answered: nothing was kept; or there was no memory to print what it led to.
 abbrev pub IsLineCut : Catalog → List Plan → DriverState → List ℕ → Cut → CoreState → Type 0
 IsLineCut c plans s line cuts.DiskFault core = core ≡ s.core

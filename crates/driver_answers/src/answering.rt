@@ -1,14 +1,17 @@
 // The lines of a driver.
-ghost use Rattle.std.specs.Prelude.{◌≡◌, ◌≢◌, ◌++◌, List, Err, drop, IfOk, IfErr, OnOk};
+ghost use Rattle.std.specs.Prelude.{◌≡◌, ◌≢◌, List, Some, Err, drop, IfOk, IfErr, OnOk};
 ghost use Rattle.process_tree.specs.Order.{Each};
 ghost use Rattle.process_tree.specs.declared.plan.Plan.{Plan as Plan'};
 ghost use Rattle.engine_steps.specs.Beginning.{IsPlanFor};
+ghost use Rattle.engine_calls.specs.Acknowledged.{IsOneOf};
 ghost use Rattle.engine_calls.specs.Runs.{GoesOn, IsClosedByFault, IsReady};
 ghost use Rattle.history_files.specs.Standing.{EachFits};
 ghost use Rattle.session_play.specs.Answering.{CutsLine};
 ghost use Rattle.session_play.specs.AtHand.{session_with, AreAtHand};
+ghost use Rattle.session_play.specs.Playing.{plan_for};
 ghost use Rattle.session_play.specs.declared.cut.Cut.TheVariants.{DiskFault};
-ghost use Rattle.driver_answers.specs.Serving.{has_many_lines, state_of, IsLineAnswered, IsLineCut, IsSessionAnswered};
+ghost use Rattle.driver_requests.specs.Requests.{request_of};
+ghost use Rattle.driver_answers.specs.Serving.{has_many_lines, state_of, AsksToStart, IsLineAnswered, IsLineCut, IsSessionAnswered};
 
 use crate::happenings::happened_text;
 use crate::listing::{add_handed, pieces_text};
@@ -60,7 +63,8 @@ fn answer_session<R: Rack + Drop, B: Resource>(
         (λ cut. CutsLine engine.old.catalog plans.now
         (session_with engine.old.core hand.old) line.now cut engine.old.core engine.new.core) }
     ensures fault { IfErr result (λ cut. cut ≡ DiskFault → IsClosedByFault R.Rack engine.old engine.new) }
-    ensures goes { GoesOn R.Rack plans.now engine.old engine.new }
+    ensures goes { (may_start : List Plan') → ((p : Plan') → plan_for plans.now line.now ≡ Some p → IsOneOf may_start p)
+        → GoesOn R.Rack may_start engine.old engine.new }
     ensures fits { EachFits B.Resource engine.new.files.stores }
     ensures ready { result ≢ Err DiskFault → IsReady B.Resource engine.new }
 {
@@ -95,8 +99,9 @@ pub fn answer_line<R: Rack + Drop, B: Resource>(
         (λ cut. IsLineCut engine.old.catalog plans.now
         (state_of engine.old.core hand.old) line.now cut engine.new.core) }
     ensures fault { IfErr result (λ cut. cut ≡ DiskFault → IsClosedByFault R.Rack engine.old engine.new) }
-    // No start was under way but of a plan of the scenario, or of one that the line spells.
-    ensures goes { (spelled : List Plan') × GoesOn R.Rack (plans.now ++ spelled) engine.old engine.new }
+    // No start was under way but of a plan that the line asks for.
+    ensures goes { (asked : List Plan') × Each (AsksToStart engine.old.catalog plans.now line.now (request_of line.now)) asked
+        × GoesOn R.Rack asked engine.old engine.new }
     ensures fits { EachFits B.Resource engine.new.files.stores }
     ensures ready { result ≢ Err DiskFault → IsReady B.Resource engine.new }
 {

@@ -105,8 +105,9 @@ fn start_one<R: Rack + Drop, B: Resource>(
         ((ps qs : List Handed) → engine.new.core ≡ (play_start (session_of engine.old.core ps qs) p.name (Some p)).state.core))))) }
     ensures fault { IfErr result (λ cut. cut ≡ DiskFault → IsClosedByFault R.Rack engine.old engine.new) }
     ensures queued { OnOk result (KeepsQueued engine.old engine.new) }
-    ensures goes { (may_start : List Plan') → ((p : Plan') → plans.items ≡ p ∷ [] → IsOneOf may_start p)
-        → GoesOn R.Rack may_start engine.old engine.new }
+    ensures goes { (asked : List Plan') × Each (λ p. plans.items ≡ p ∷ []) asked
+        × ((may_start : List Plan') → ((p : Plan') → IsOneOf asked p → IsOneOf may_start p)
+        → GoesOn R.Rack may_start engine.old engine.new) }
     ensures fits { EachFits B.Resource engine.new.files.stores }
     ensures ready { result ≢ Err DiskFault → IsReady B.Resource engine.new }
 {
@@ -136,9 +137,9 @@ pub fn start_spelled<R: Rack + Drop, B: Resource>(
         → engine.new.core ≡ (play_start (session_of engine.old.core ps qs) p.name (Some p)).state.core))))) }
     ensures fault { IfErr result (λ cut. cut ≡ DiskFault → IsClosedByFault R.Rack engine.old engine.new) }
     ensures queued { OnOk result (KeepsQueued engine.old engine.new) }
-    // No start was under way but of a plan that the text spells.
-    ensures goes { (spelled : List Plan') ×
-        ((may_start : List Plan') → ((p : Plan') → IsOneOf spelled p → IsOneOf may_start p)
+    // No start was under way but of the one plan that the text spells.
+    ensures goes { (asked : List Plan') × Each (λ p. AreGoodPlans engine.old.catalog.ops spelled.now (p ∷ [])) asked
+        × ((may_start : List Plan') → ((p : Plan') → IsOneOf asked p → IsOneOf may_start p)
         → GoesOn R.Rack may_start engine.old engine.new) }
     ensures fits { EachFits B.Resource engine.new.files.stores }
     ensures ready { result ≢ Err DiskFault → IsReady B.Resource engine.new }

@@ -10,4 +10,4 @@ mod file_rack;
 mod system_rack;
 
 pub use file_rack::FileRack;
-pub use folder_files::{Access, Folder, MemoryFolder, SystemFolder};
+pub use folder_files::{Access, Barred, Folder, MemoryFolder, Subject, SystemFolder};

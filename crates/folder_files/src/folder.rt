@@ -1,10 +1,11 @@
 // The files of a folder as a system gives them.
-ghost use Rattle.std.specs.Prelude.{◌≡◌, ◌≢◌, ◌<◌, ◌≤◌, ℕ, List, Bool, length, take, drop, IfOk, OnOk, IsTrue};
+ghost use Rattle.std.specs.Prelude.{◌≡◌, ◌≢◌, ◌<◌, ◌≤◌, ℕ, List, Bool, length, take, drop, IfOk, IfErr, OnOk, Some, IsTrue};
 ghost use Rattle.process_flow.specs.Causes.{CountsFaults};
 ghost use Rattle.process_disk.specs.Disk.{FileSet, Disk, Told, file_of, put, IsHonest};
 ghost use Rattle.process_disk.specs.Calls.{OnlyLooks, OnlyWrites};
 ghost use Rattle.folder_files.specs.Folder.{IsKept, IsPart, IsSynced, folder_place};
 
+use crate::Barred;
 use process_flow::Failed;
 
 /// How far a folder was entered.
@@ -19,9 +20,11 @@ pub enum Access {
 }
 
 /// Nine files of one folder, numbered from 0. It is entered before it is looked at: to read alone, or by a try to take it. A
-/// transfer may be short, and a sync is of one file.
+/// transfer may be short, and a sync is of one file. A probe before that finds out whether it can be used.
 pub trait Folder {
+    ghost use Rattle.std.specs.declared.option.Option.{Option};
     ghost use Rattle.folder_files.specs.declared.folder.Access.{Access};
+    ghost use Rattle.folder_files.specs.declared.barred.Barred.{Barred};
 
     /// What it tells of its files.
     ghost disk: { Self → Disk };
@@ -37,6 +40,19 @@ pub trait Folder {
 
     /// How far it was entered.
     ghost access: { Self → Access };
+
+    /// Why it can't be used, where that was found.
+    ghost bar: { Self → Option Barred };
+
+    /// Finds out whether its files can be used, to read alone or to write too. To write, the folder is taken, if file 0 is there.
+    fn probe(&mut self, writes: bool) -> Result<(), Barred>
+        requires { access self.old ≡ Access.Unentered }
+        ensures cause { IfErr result (λ b. bar self.new ≡ Some b) }
+        ensures access { access self.new ≡ access self.old }
+        ensures stays { IsTrue (taken self.old) → IsTrue (taken self.new) }
+        ensures looks { OnlyLooks (disk self.old) (disk self.new) }
+        ensures syncs { syncs self.new ≡ syncs self.old }
+        ensures faults { CountsFaults (faults self.old) (faults self.new) result };
 
     /// From here on its files are only read.
     fn read_only(&mut self)

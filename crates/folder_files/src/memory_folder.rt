@@ -4,7 +4,7 @@ ghost use Rattle.process_disk.specs.Memory.{disk_of};
 ghost use Rattle.process_disk.specs.MemoryView.{memory};
 
 use crate::counts::{FOLDER, count};
-use crate::{Access, Folder};
+use crate::{Access, Barred, Folder};
 use process_disk::{MemoryRack, Rack};
 use process_flow::Failed;
 
@@ -44,6 +44,7 @@ fn carried(len: usize, most: u8) -> usize
 }
 
 impl Folder for MemoryFolder {
+    ghost use Rattle.std.specs.Prelude.{None};
     ghost use Rattle.process_disk.specs.Memory.{disk_of};
     ghost use Rattle.process_disk.specs.MemoryView.{memory};
     ghost use Rattle.process_disk.specs.MemoryLaws.{memory_is_honest};
@@ -58,7 +59,13 @@ impl Folder for MemoryFolder {
 
     ghost access = { λ folder. folder.access };
 
+    ghost bar = { λ folder. None };
+
     ghost honest = { λ folder told. memory_is_honest (memory folder.rack) folder.rack.sound.nine folder.rack.sound.placed };
+
+    fn probe(&mut self, _writes: bool) -> Result<(), Barred> {
+        Ok(())
+    }
 
     fn read_only(&mut self) {
         self.access = Access::ReadOnly;

@@ -1,16 +1,20 @@
 // The files of the current folder, by the calls of the system.
-ghost use Rattle.std.specs.Prelude.{◌≡◌, ◌<◌, ◌≤◌, ◌+◌, ◌-◌, length, IfOk, OnOk, IsTrue, true};
+ghost use Rattle.std.specs.Prelude.{◌≡◌, ◌<◌, ◌≤◌, ◌+◌, ◌-◌, length, Some, None, IfOk, IfErr, OnOk, IsErrOf, IsTrue, true};
 ghost use Rattle.std.specs.Prelude.{false};
+ghost use Rattle.std.specs.Prelude.{◌↔◌, Err, IsOk};
+ghost use Rattle.std.specs.Fs.{file_type, IsFile};
+ghost use Rattle.std_io.specs.IoError.{error_kind};
 ghost use Rattle.process_flow.specs.Causes.{CountsFaults};
 ghost use Rattle.folder_files.specs.Folder.{IsSynced, folder_place};
 
+use crate::barred::bar_of;
 use crate::counts::{FOLDER, count};
-use crate::{Access, Folder};
+use crate::{Access, Barred, Folder, Subject};
 use process_flow::Failed;
-use std::fs::{File, OpenFile, OpenOptions};
-use std::io;
+use std::fs::{File, Metadata, OpenFile, OpenOptions, TryLockError};
 use std::io::{ErrorKind, Read, Seek, SeekFrom, Write};
-use std::rt::Files;
+use std::rt::{Env, Files};
+use std::{env, fs, io};
 
 const NAMES: [&str; 9] = [
     "tps.0", "tps.1", "tps.2", "tps.3", "tps.4", "tps.5", "tps.6", "tps.7", "tps.8",
@@ -79,6 +83,10 @@ pub struct SystemFolder<F: Files<File = File> + Drop> {
     /// How many syncs were finished: of each file, and of the names.
     pub syncs: [u64; 10],
     pub faults: u64,
+    /// The folder that it went to, where it left the current one.
+    pub place: Option<String>,
+    /// Why it can't be used, where the system told so.
+    pub bar: Option<Barred>,
     streams: [Option<File>; 3],
 }
 
@@ -88,6 +96,8 @@ impl<F: Files<File = File> + Drop> SystemFolder<F> {
         ensures taken { result.taken ≡ false }
         ensures new { result.access ≡ Access.Unentered }
         ensures faults { result.faults ≡ 0 }
+        ensures place { result.place ≡ None }
+        ensures bar { result.bar ≡ None }
     {
         let streams = [held(&rt), held(&rt), held(&rt)];
         SystemFolder {
@@ -98,7 +108,35 @@ impl<F: Files<File = File> + Drop> SystemFolder<F> {
             access: Access::Unentered,
             syncs: [0; 10],
             faults: 0,
+            place: None,
+            bar: None,
             streams,
+        }
+    }
+
+    // Keeps why it can't be used, and counts that as a failure.
+    fn barred<T>(&mut self, bar: Barred) -> Result<T, Barred>
+        ensures bar { IsErrOf result bar }
+        ensures kept { self.new.bar ≡ Some bar }
+        ensures faults { CountsFaults self.old.faults self.new.faults result }
+        ensures stays { self.new ≡ record self.old { bar = self.new.bar; faults = self.new.faults } }
+    {
+        self.bar = Some(bar);
+        self.faults = self.faults.saturating_add(1);
+        Err(bar)
+    }
+
+    /// Opens a file for reading, which isn't one of the nine. It may be a pipe.
+    pub fn input(&mut self, name: &str) -> Result<File, Barred>
+        ensures cause { IfErr result (λ b. self.new.bar ≡ Some b) }
+        ensures place { self.new.place ≡ self.old.place }
+        ensures access { self.new.access ≡ self.old.access }
+        ensures faults { CountsFaults self.old.faults self.new.faults result }
+    {
+        match File::open(&self.rt, name) {
+            Ok(file) if is_folder(&file) => self.barred(Barred::NotAFile(Subject::Input)),
+            Ok(file) => Ok(file),
+            Err(error) => self.barred(bar_of(Subject::Input, &error)),
         }
     }
 
@@ -119,6 +157,143 @@ impl<F: Files<File = File> + Drop> SystemFolder<F> {
     }
 }
 
+impl<F: Files<File = File> + Env + Drop> SystemFolder<F> {
+    /// Leaves the current folder for this one.
+    pub fn go_to(&mut self, place: String) -> Result<(), Barred>
+        ensures cause { IfErr result (λ b. self.new.bar ≡ Some b) }
+        ensures place { OnOk result (self.new.place ≡ Some place) }
+        ensures access { self.new.access ≡ self.old.access }
+        ensures faults { CountsFaults self.old.faults self.new.faults result }
+    {
+        match env::set_current_dir(&self.rt, place.as_str()) {
+            Ok(()) => {
+                self.place = Some(place);
+                Ok(())
+            }
+            Err(error) => self.barred(bar_of(Subject::Folder, &error)),
+        }
+    }
+}
+
+impl<F: Files<File = File> + Drop> SystemFolder<F> {
+    // Finds out whether a file can be used, if it is there, and opens it.
+    fn probe_file(&mut self, file: u8, writes: bool) -> Result<(), Barred>
+        requires { file < 9 }
+        ensures cause { IfErr result (λ b. self.new.bar ≡ Some b) }
+        ensures stays { (self.new.taken ≡ self.old.taken) × (self.new.syncs ≡ self.old.syncs) }
+        ensures access { self.new.access ≡ self.old.access }
+        ensures faults { CountsFaults self.old.faults self.new.faults result }
+    {
+        match fs::metadata(&self.rt, NAMES[usize::from(file)]) {
+            Ok(metadata) => {
+                self.kind_told(file, &metadata)?;
+                self.open_probed(file, writes)
+            }
+            Err(error) => self.told_of(Subject::File(file), &error),
+        }
+    }
+
+    // What isn't a file bars the folder, and isn't opened.
+    fn kind_told(&mut self, file: u8, metadata: &Metadata) -> Result<(), Barred>
+        ensures plain { IsFile (file_type metadata.now) ↔ IsOk result }
+        ensures named { IfErr result (λ b. b ≡ Barred.NotAFile (Subject.File file)) }
+        ensures cause { IfErr result (λ b. self.new.bar ≡ Some b) }
+        ensures stays { (self.new.taken ≡ self.old.taken) × (self.new.syncs ≡ self.old.syncs) }
+        ensures access { self.new.access ≡ self.old.access }
+        ensures faults { CountsFaults self.old.faults self.new.faults result }
+    {
+        if metadata.is_file() {
+            Ok(())
+        } else {
+            self.barred(Barred::NotAFile(Subject::File(file)))
+        }
+    }
+
+    // Opens a file as it will be used.
+    fn open_probed(&mut self, file: u8, writes: bool) -> Result<(), Barred>
+        requires { file < 9 }
+        ensures cause { IfErr result (λ b. self.new.bar ≡ Some b) }
+        ensures stays { (self.new.taken ≡ self.old.taken) × (self.new.syncs ≡ self.old.syncs) }
+        ensures access { self.new.access ≡ self.old.access }
+        ensures faults { CountsFaults self.old.faults self.new.faults result }
+    {
+        let mut how = OpenOptions::new();
+        how.read(true).write(writes);
+        match how.open(&self.rt, NAMES[usize::from(file)]) {
+            Ok(opened) => {
+                self.files[usize::from(file)] = Some(fresh(opened, writes));
+                Ok(())
+            }
+            Err(error) => self.told_of(Subject::File(file), &error),
+        }
+    }
+
+    // A file that isn't there may be made, and any other error bars the folder.
+    fn told_of(&mut self, subject: Subject, error: &io::Error) -> Result<(), Barred>
+        ensures absent { (error_kind error.now ≡ ErrorKind.NotFound) ↔ IsOk result }
+        ensures permission { (error_kind error.now ≡ ErrorKind.PermissionDenied) ↔ IsErrOf result (Barred.NoPermission subject) }
+        ensures cause { IfErr result (λ b. self.new.bar ≡ Some b) }
+        ensures stays { (self.new.taken ≡ self.old.taken) × (self.new.syncs ≡ self.old.syncs) }
+        ensures access { self.new.access ≡ self.old.access }
+        ensures faults { CountsFaults self.old.faults self.new.faults result }
+    {
+        match error.kind() {
+            ErrorKind::NotFound => Ok(()),
+            ErrorKind::PermissionDenied => self.barred(Barred::NoPermission(subject)),
+            _ => self.barred(Barred::Fault(subject)),
+        }
+    }
+
+    // Finds out whether the folder can be opened, to bring its names to the disk.
+    fn probe_folder(&mut self) -> Result<(), Barred>
+        ensures cause { IfErr result (λ b. self.new.bar ≡ Some b) }
+        ensures stays { (self.new.taken ≡ self.old.taken) × (self.new.syncs ≡ self.old.syncs) }
+        ensures access { self.new.access ≡ self.old.access }
+        ensures faults { CountsFaults self.old.faults self.new.faults result }
+    {
+        match File::open(&self.rt, ".") {
+            Ok(_) => Ok(()),
+            Err(error) => self.told_of(Subject::Folder, &error),
+        }
+    }
+
+    // Takes the folder, if file 0 is open.
+    fn probe_lock(&mut self) -> Result<(), Barred>
+        ensures cause { IfErr result (λ b. self.new.bar ≡ Some b) }
+        ensures stays { IsTrue self.old.taken → IsTrue self.new.taken }
+        ensures syncs { self.new.syncs ≡ self.old.syncs }
+        ensures access { self.new.access ≡ self.old.access }
+        ensures faults { CountsFaults self.old.faults self.new.faults result }
+    {
+        let [journal, ..] = &self.files;
+        let Some(opened) = journal else {
+            return Ok(());
+        };
+        let found = opened.file.try_lock();
+        self.lock_told(found)
+    }
+
+    // A lock that another program has bars the folder.
+    fn lock_told(&mut self, found: Result<(), TryLockError>) -> Result<(), Barred>
+        ensures in_use { (found ≡ Err TryLockError.WouldBlock) ↔ IsErrOf result Barred.InUse }
+        ensures taken { OnOk result (IsTrue self.new.taken) }
+        ensures cause { IfErr result (λ b. self.new.bar ≡ Some b) }
+        ensures stays { IsTrue self.old.taken → IsTrue self.new.taken }
+        ensures syncs { self.new.syncs ≡ self.old.syncs }
+        ensures access { self.new.access ≡ self.old.access }
+        ensures faults { CountsFaults self.old.faults self.new.faults result }
+    {
+        match found {
+            Ok(()) => {
+                self.taken = true;
+                Ok(())
+            }
+            Err(TryLockError::WouldBlock) => self.barred(Barred::InUse),
+            Err(TryLockError::Error(_)) => self.barred(Barred::Fault(Subject::File(0))),
+        }
+    }
+}
+
 impl<F: Files<File = File> + Drop> Folder for SystemFolder<F> {
     ghost use Rattle.std.specs.Prelude.{false, []};
     ghost use Rattle.std.proofs.Common.{rules};
@@ -133,7 +308,23 @@ impl<F: Files<File = File> + Drop> Folder for SystemFolder<F> {
 
     ghost access = { λ folder. folder.access };
 
+    ghost bar = { λ folder. folder.bar };
+
     ghost honest = { λ folder told. Prim.search rules };
+
+    fn probe(&mut self, writes: bool) -> Result<(), Barred>
+        ensures cause { IfErr result (λ b. self.new.bar ≡ Some b) }
+        ensures access { self.new.access ≡ self.old.access }
+        ensures stays { IsTrue self.old.taken → IsTrue self.new.taken }
+        ensures syncs { self.new.syncs ≡ self.old.syncs }
+        ensures faults { CountsFaults self.old.faults self.new.faults result }
+    {
+        self.probe_folder()?;
+        for file in 0..9_u8 {
+            self.probe_file(file, writes)?;
+        }
+        if writes { self.probe_lock() } else { Ok(()) }
+    }
 
     fn read_only(&mut self)
         ensures entered { self.new.access ≡ Access.ReadOnly }
@@ -312,6 +503,13 @@ fn locked<F: Files<File = File>>(rt: &F, slot: &mut Option<Opened>, make: bool) 
         }
         Err(error) if !make && error.kind() == ErrorKind::NotFound => Ok(false),
         Err(error) => Err(error),
+    }
+}
+
+fn is_folder(file: &File) -> bool {
+    match file.metadata() {
+        Ok(metadata) => metadata.is_dir(),
+        Err(_) => false,
     }
 }
 

@@ -13,7 +13,6 @@ use Rattle.process_journal.specs.Laws.{IsSameHistory}
 use Rattle.history_files.specs.Sound.{IsSound}
 use Rattle.engine_steps.specs.Engines.{full_history}
 use Rattle.engine_calls.specs.Acknowledged.{acknowledged}
-use Rattle.subsystem_store.specs.Laws.{BooksAreReadBack}
 use Rattle.history_opening.specs.Laws.{SoundFilesAreOpened}
 use Rattle.process_engine.specs.declared.gates.Gate.{Ghosts as Gates}
 use Rattle.resource_box.specs.declared.resource.Resource.{Ghosts as Resources}
@@ -24,6 +23,7 @@ use Rattle.program_words.specs.declared.reading.Command.{Command}
 use Rattle.program_words.specs.declared.reading.Command.TheVariants.{Check, Init, Run, Session, Serve, Restart, Show, Replay, Verify, Audit, Gen, Bulk, Help, Version}
 use Rattle.process_top.specs.Worlds.{World}
 use Rattle.same_histories.proofs.SameHistories.{one_sound, same_itself, same_through}
+use Rattle.headline.proofs.ExactBooks.{LawsOfBooks}
 use Rattle.headline.specs.Headline.{IsCompleted, IsHeldUp, IsLeftAlone, MayLeave, Outside, WereLeft, goes_on, was_opened_by}
 use Rattle.headline.specs.Chains.{Call, ChainsLoseNothing, Follows, IsCall, IsChain, IsPartOfWhole, MayBeNext, NothingIsLost, acknowledged_with, known_behind, world_of}
 use Rattle.headline.proofs.GoodHistories.{machine_at_ends}
@@ -68,7 +68,7 @@ pub record Finds {S K R : Type 0} (c : Catalog) (MayBe : History → Type 0) (be
   pub images : (files : FileSet) → before.files.disk.may_leave files → LeftAs c MayBe files
 
 module _ {S K R B G : Type 0} (sources : Sources S) (sinks : Sinks K) (racks : Racks R) (resources : Resources B) (workers : Gates G)
-    (honest : (rack : R) → Told (racks.disk rack) → IsHonest (racks.disk rack)) (opened : SoundFilesAreOpened) (books : BooksAreReadBack) where
+    (honest : (rack : R) → Told (racks.disk rack) → IsHonest (racks.disk rack)) (opened : SoundFilesAreOpened) (books : LawsOfBooks) where
   abbrev see : Outside S K R B G → World S K R
   see = world_of sources sinks racks resources workers
 

@@ -13,6 +13,11 @@ use Rattle.subsystem_store.specs.Opened.{IsStoreOf}
 use Rattle.history_files.specs.Effects.{effects}
 use Rattle.history_files.specs.Sound.{IsBookOf, IsSound, counted, is_among, kind_of}
 use Rattle.engine_steps.specs.Engines.{AreExactly}
+use Rattle.process_top.specs.Values.{ListsAreOfValues}
+
+-- the laws of books: they are read back, and printed lists keep their values
+abbrev pub LawsOfBooks : Type 0
+LawsOfBooks = BooksAreReadBack × ListsAreOfValues
 
 -- a store has two records of each committed effect, and one of that in doubt
 records : (book : List Effect) (doubt : Option Effect) → length (store_bodies book doubt) ≡ 2 * length book + length (in_doubt doubt)

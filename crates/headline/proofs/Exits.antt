@@ -60,7 +60,7 @@ refused_fault before after r status is rose told = by (fault_told before.output 
     by (inl failed) = inr (failed, rose)
     by (inr disk) = inl disk
 
-pub said_fault : {S K R : Type 0} (before after : World S K R) (s at : Status) (text : _) → s ≡ DiskFault → Rose before.files.faults after.files.faults
-    → IsTold s text before.output after.output at → IsRackFault at before after
-said_fault before after s at text is rose (inl out) = inl (out.0 ∙ is)
-said_fault before after s at text is rose (inr failed) = inr (failed.0, rose)
+pub said_fault : {S K R : Type 0} (before after : World S K R) (s at : Status) (first : Output) (text : _) → s ≡ DiskFault → Rose before.files.faults after.files.faults
+    → IsTold s text first after.output at → IsRackFault at before after
+said_fault before after s at first text is rose (inl out) = inl (out.0 ∙ is)
+said_fault before after s at first text is rose (inr failed) = inr (failed.0, rose)

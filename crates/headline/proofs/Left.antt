@@ -36,7 +36,7 @@ pub ahead_events : (o : Option Command) (before after : Input) (c : Catalog) (h 
     → (es : List Event) × (k.events ≡ history_of now ++ es)
 ahead_events (Some (Run workers)) before after c h now k ahead = under_way ahead.0 now k ahead.2
 ahead_events (Some Session) before after c h now k ahead = under_way ahead.0 now k ahead.3
-ahead_events (Some Serve) before after c h now k (plans, first, taken, read, spelled, ahead) = under_way (plans ++ spelled) now k ahead
+ahead_events (Some Serve) before after c h now k (plans, first, taken, d, status, read, spoken, asked, by_line, ahead) = under_way asked now k ahead
 ahead_events (Some Restart) before after c h now k ahead = (ahead.event ∷ [], ap (λ h. h.events) ahead.is)
 ahead_events (Some Check) before after c h now k ahead = absurd ahead
 ahead_events (Some (Init values)) before after c h now k ahead = absurd ahead

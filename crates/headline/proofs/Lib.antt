@@ -11,3 +11,4 @@ pub mod Agree
 pub mod Whole
 pub mod Chained
 pub mod Stops
+pub mod AnswersKept

@@ -15,7 +15,6 @@ use Rattle.history_files.specs.Images.{IsWithin}
 use Rattle.history_files.specs.Sound.{IsSound}
 use Rattle.engine_steps.specs.Opening.{LeftByOpening}
 use Rattle.history_opening.specs.Images.{BecomesSound}
-use Rattle.subsystem_store.specs.Laws.{BooksAreReadBack}
 use Rattle.history_opening.specs.Laws.{SoundFilesAreOpened}
 use Rattle.history_opening.specs.declared.faults.OpenError.{OpenError}
 use Rattle.engine_steps.specs.declared.engines.Phase.{Phase}
@@ -39,6 +38,7 @@ use Rattle.process_restart.specs.Completing.{with_completion}
 use Rattle.process_restart.specs.Restarting.{IsRestart}
 use Rattle.restart_run.specs.Restart.{IsRestartCutOff, SaysRestart}
 use Rattle.process_top.specs.Restart.{IsRestartDue}
+use Rattle.headline.proofs.ExactBooks.{LawsOfBooks}
 use Rattle.headline.specs.Headline.{HoldsAcknowledged, IsBeginningOf, IsCompleted, IsHeldUp, IsRecovered, NothingIsExhausted}
 use Rattle.program_words.specs.Commands.{asked}
 use Rattle.program_words.specs.declared.reading.Command.TheVariants.{Restart}
@@ -53,7 +53,7 @@ OnTheWay c read again last =
     EachImage last.files.disk again.files.disk.moment (λ files. again.files.disk.may_leave files ⊎ IsWithin c read.events (with_completion read) files)
 
 module _ {S K R : Type 0} (c : Catalog) (g : History) (words : List (List ℕ)) (again last : World S K R) (number : ℕ) (asks : asked words ≡ Some Restart) (refusal : Option Refusal) (answered : Answers words again last number refusal)
-    (tells : Told again.files.disk) (sound : IsSound c g again.files.disk.files) (honest : IsHonest last.files.disk) (opened : SoundFilesAreOpened) (books : BooksAreReadBack) where
+    (tells : Told again.files.disk) (sound : IsSound c g again.files.disk.files) (honest : IsHonest last.files.disk) (opened : SoundFilesAreOpened) (books : LawsOfBooks) where
   -- What became of the restart: of this history, which was read.
   pub record Becomes (read : History) : Type 0 where
     pub reads : IsSound c read again.files.disk.files

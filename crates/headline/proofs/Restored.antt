@@ -36,8 +36,7 @@ use Rattle.process_restart.specs.Completing.{IsNextOfCompletion, restart_causes,
 use Rattle.process_restart.specs.Restarting.{IsRestart}
 use Rattle.headline.specs.Headline.{IsCompleted}
 use Rattle.engine_calls.proofs.Acknowledged.{Holds, held}
-use Rattle.subsystem_store.specs.Laws.{BooksAreReadBack}
-use Rattle.headline.proofs.ExactBooks.{exactly_read}
+use Rattle.headline.proofs.ExactBooks.{LawsOfBooks, exactly_read}
 use Rattle.headline.proofs.GoodHistories.{good_history}
 
 module _ (gate : AskedGate) (c : Catalog) (h : History) (now : CoreState) (on : Phase) (before after : Disk) (restart : IsRestart gate c h now on before after) (told : Told before) where
@@ -122,7 +121,7 @@ module _ (c : Catalog) (h : History) (good : IsGood (do_conflict c.conflicts) h.
 -- What is restored where all was completed.
 pub restored : {S K R : Type 0} (gate : AskedGate) (c : Catalog) (h : History) (now : CoreState) (again last : World S K R) → IsRestart gate c h now Settled again.files.disk last.files.disk → Told again.files.disk
     → history_of now ≡ completed_history h → Appends again.output.taken last.output.taken (report_text c (with_completion h) (restart_causes h)) → HaveValuesOf (λ (b : BoxState). b.values) last.files.disk.files last.boxes
-    → BooksAreReadBack → IsCompleted c h again last
+    → LawsOfBooks → IsCompleted c h again last
 restored gate c h now again last restart told complete printed values books =
     let sound = restart.kept.sound told in
     let good = good_history c h sound.history in
@@ -136,11 +135,18 @@ restored gate c h now again last restart told complete printed values books =
       nobody = law.1;
       books = exactly;
       kept = subst (λ k. EachImage last.files.disk last.files.disk.moment (AreExactly c k)) whole (restart.each refl told);
-      boxes = values (λ q. effects c.ops (with_completion h) q) (exactly_read books c (with_completion h) last.files.disk.files all_sound exactly);
+      boxes = values (λ q. effects c.ops (with_completion h) q) (exactly_read books.0 c (with_completion h) last.files.disk.files all_sound exactly);
       steps = (trace_of (ends (completed_history h)) (acts (completed_history h))).steps;
       list = (trace_of (ends (completed_history h)) (acts (completed_history h))).list;
       printed = subst (Appends again.output.taken last.output.taken) (whole_report c h good (restart_causes h)) printed;
       applies = reduces.applies;
       reduced = reduces.reduced;
       serial = reduces.serial;
+      keeps = (books.1 c h sound.history).keeps;
+      values = λ by_value q low. (
+        effects c.ops (with_completion h) q,
+        all_sound.books q low,
+        λ key. sym (((books.1 c h sound.history).keeps by_value).values q key),
+      );
+      order = (books.1 c h sound.history).order;
     }

@@ -22,7 +22,7 @@ use Rattle.scenario_run.specs.Run.{IsPastLimit, IsRun, IsRunOf, IsRunDue as IsRu
 use Rattle.scenario_run.specs.Scenario.{IsScenarioRead}
 use Rattle.session_run.specs.Playthrough.{EndsAt}
 use Rattle.session_run.specs.Session.{IsPlayedOn, IsSession, IsSessionDue as IsSessionFound, IsSessionRead, phase_by}
-use Rattle.serve_run.specs.Dialogue.{EndsWith, number_behind}
+use Rattle.serve_run.specs.Dialogue.{Dialogue, EndsWith, IsDialogueTold, number_behind}
 use Rattle.serve_run.specs.Dialogue.{phase_by as dialogue_phase}
 use Rattle.serve_run.specs.Serve.{IsNotServed, IsNotServedOn, IsServeRead, IsServeTold, IsServed, IsSpoken}
 use Rattle.driver_answers.specs.Serving.{DriverState}
@@ -135,7 +135,7 @@ module _ {S K R : Type 0} (c : Catalog) (h : History) (before after : World S K 
     where
       settles : Ended s.status → Settles (phase_by s.status)
       settles (inl on) well = on
-      settles (inr fault) well = absurd (well (said_fault before after s.status status s.text.items fault (is.fault fault) out))
+      settles (inr fault) well = absurd (well (said_fault before after s.status status before.output s.text.items fault (is.fault fault) out))
 
   played_on : (d : Catalog) (plans : List Plan) (lines : List Line) → IsSessionRead before.input after.input d plans lines → (found : _)
       → IsPlayedOn d plans lines before.files after.files found → IsResultTold found before.output after.output status → Of Session
@@ -182,29 +182,29 @@ module _ {S K R : Type 0} (c : Catalog) (h : History) (before after : World S K 
   dialogue_ends d plans last n u tail now statuses.NotReduced ends = absurd ends
   dialogue_ends d plans last n u tail now statuses.NoMemory ends = (inl refl, inl refl)
 
-  spoken_ends : (d : Catalog) (plans : List Plan) (k : History) (first : ℕ) (now : CoreState) (taken : List ℕ) (rest : Option (List ℕ)) (answers : List ℕ) (s : Status)
-      → IsSpoken d plans k first now taken rest answers s → IsAnEnd s
-  spoken_ends d plans k first now taken rest answers s (inl held) = dialogue_ends d plans held.last (number_behind first held.exchanges) held.unanswered held.tail now s held.ends
-  spoken_ends d plans k first now taken rest answers s (inr (none, failed, same)) = subst IsAnEnd (sym failed) (inl refl, inl refl)
+  spoken_ends : (d : Catalog) (plans : List Plan) (k : History) (first : ℕ) (now : CoreState) (taken : List ℕ) (rest : Option (List ℕ)) (x : Dialogue) (s : Status)
+      → IsSpoken d plans k first now taken rest x s → IsAnEnd s
+  spoken_ends d plans k first now taken rest x s (inl (front, held)) = dialogue_ends d plans held.last (number_behind first x.exchanges) x.unanswered x.tail now s held.ends
+  spoken_ends d plans k first now taken rest x s (inr (none, failed, same)) = subst IsAnEnd (sym failed) (inl refl, inl refl)
 
-  served_on : (d : Catalog) (plans : List Plan) (first : ℕ) (taken : List ℕ) → IsServeRead before.input after.input d plans first taken → (text : List ℕ) (s : Status)
-      → IsServed d plans first taken before.input after.input before.files after.files text s → IsTold s text before.output after.output status → IsAnEnd s → Of Serve
-  served_on d plans first taken read text s is out (late, ends) =
-      kept (Some Serve) c h before after entry number status numbered known honest d is.history is.now (IsOneAhead d (plans ++ is.spelled) is.now (dialogue_phase s)) (dialogue_phase s) is.kept is.machine
-      (inr (plans, first, taken, is.answers, s, read, is.spoken)) (λ files ahead. (ahead.1.0, (plans, first, taken, read, is.spelled, ahead.1.1), ahead.1.2))
+  served_on : (d : Catalog) (plans : List Plan) (first : ℕ) (taken : List ℕ) → IsServeRead before.input after.input d plans first taken → (x : Dialogue) (s : Status)
+      → IsServed d plans first taken before.input after.input before.files after.files x s → IsDialogueTold x s before.output after.output status → IsAnEnd s → Of Serve
+  served_on d plans first taken read x s is out (late, ends) =
+      kept (Some Serve) c h before after entry number status numbered known honest d is.history is.now (IsOneAhead d is.asked is.now (dialogue_phase s)) (dialogue_phase s) is.kept is.machine
+      (inr (plans, first, taken, x, s, read, is.spoken)) (λ files ahead. (ahead.1.0, (plans, first, taken, x, s, read, is.spoken, is.asked, is.by_line, ahead.1.1), ahead.1.2))
       (settles ends) (λ early reads. absurd (beforehand late early reads))
     where
       settles : (dialogue_phase s ≡ Settled) ⊎ (s ≡ statuses.DiskFault) → Settles (dialogue_phase s)
       settles (inl on) well = on
-      settles (inr fault) well = absurd (well (said_fault before after s status text fault (is.disk fault) out))
+      settles (inr fault) well = absurd (well (said_fault before after s status out.mid x.tail fault (is.disk fault) out.told))
 
       beforehand : (is_refused_beforehand s ≡ false) ⊎ (s ≡ statuses.ReadFault) → is_refused_beforehand status ≡ true → ¬ FailsInDialogue (Some Serve) status → ⊥
-      beforehand (inl late) early reads = said_late s status before.output after.output text out late early
-      beforehand (inr fault) early reads = failed_late s status before.output after.output text out early (λ same. reads (refl, same ∙ fault))
+      beforehand (inl late) early reads = said_late s status out.mid after.output x.tail out.told late early
+      beforehand (inr fault) early reads = failed_late s status out.mid after.output x.tail out.told early (λ same. reads (refl, same ∙ fault))
 
-  served_due : (text : List ℕ) (s : Status) → IsServeTold before.input after.input before.files after.files text s → IsTold s text before.output after.output status → Of Serve
-  served_due text s (d, plans, first, taken, read, is) out =
-      served_on d plans first taken read text s is out (spoken_ends d plans is.history first is.now taken after.input.left is.answers s is.spoken)
+  served_due : (x : Dialogue) (s : Status) → IsServeTold before.input after.input before.files after.files x s → IsDialogueTold x s before.output after.output status → Of Serve
+  served_due x s (d, plans, first, taken, read, is) out =
+      served_on d plans first taken read x s is out (spoken_ends d plans is.history first is.now taken after.input.left x s is.spoken)
 
   not_served_on : (d : Catalog) (found : _) → IsNotServedOn d before.files after.files found → IsResultTold found before.output after.output status → Of Serve
   not_served_on d (Ok s) none out = absurd none
@@ -220,7 +220,7 @@ module _ {S K R : Type 0} (c : Catalog) (h : History) (before after : World S K 
   not_served found why out = serve_part found (serve_parts.not_served_in_parts before.input after.input before.files after.files found why) out
 
   serve_due : (reply : Reply) → IsServeDue before.input after.input before.files after.files reply → IsReplyTold reply before.output after.output status → Of Serve
-  serve_due (served text s) due out = served_due text s due out
+  serve_due (served x s) due out = served_due x s due out
   serve_due (ended s) due out = not_served (Ok s) due out
   serve_due (refused r) due out = not_served (Err r) due out
   serve_due (checked ps vs) due out = absurd due

@@ -10,7 +10,6 @@ use Rattle.schedule_model.specs.declared.history.History.{History}
 use Rattle.reduction_trace.specs.Whole.{completed_history}
 use Rattle.commute_table.specs.declared.catalog.Catalog.{Catalog}
 use Rattle.process_core.specs.Cores.{CoreState}
-use Rattle.subsystem_store.specs.Laws.{BooksAreReadBack}
 use Rattle.history_opening.specs.Laws.{SoundFilesAreOpened}
 use Rattle.process_engine.specs.declared.gates.Gate.{Ghosts as Gates}
 use Rattle.resource_box.specs.declared.resource.Resource.{Ghosts as Resources}
@@ -21,6 +20,7 @@ use Rattle.program_words.specs.declared.reading.Command.{Command}
 use Rattle.program_words.specs.declared.reading.Command.TheVariants.{Check, Init, Run, Session, Serve, Restart, Show, Replay, Verify, Audit, Gen, Bulk, Help, Version}
 use Rattle.process_top.specs.Commands.{Answers}
 use Rattle.process_top.specs.Worlds.{World}
+use Rattle.headline.proofs.ExactBooks.{LawsOfBooks}
 use Rattle.headline.specs.Headline.{Headline, HoldsAcknowledged, IsAhead, IsAtEntry, IsBeginningOf, OfEachRestart, Outside, ReadsAs, StopsAreRestored, WentOn, goes_on, seen}
 use Rattle.headline.proofs.Agree.{restarts_agree}
 use Rattle.headline.proofs.Left.{LeftAs, begins_and_holds, begins_same, holds_same, left_as}
@@ -32,7 +32,7 @@ use Rattle.headline.proofs.Went.{Went}
 use Rattle.headline.proofs.WentByCommand.{went_by}
 
 module _ {S K R B G : Type 0} (sources : Sources S) (sinks : Sinks K) (racks : Racks R) (resources : Resources B) (workers : Gates G)
-    (honest : (rack : R) → Told (racks.disk rack) → IsHonest (racks.disk rack)) (opened : SoundFilesAreOpened) (books : BooksAreReadBack) where
+    (honest : (rack : R) → Told (racks.disk rack) → IsHonest (racks.disk rack)) (opened : SoundFilesAreOpened) (books : LawsOfBooks) where
   abbrev see : Outside S K R B G → World S K R
   see = seen sources sinks racks resources workers
 

@@ -24,6 +24,9 @@
 --   box has its values; the report has these steps, which apply one after another to the completed schedule, and the list that they
 --   come to is serial.
 --
+-- Beside the sentence, where the catalog names each conflict in value: the books show what this list makes of empty books, one
+-- process after another. And its order is one of real time.
+--
 -- Where a process uses up its tries, memory is wanting or a device fails, what `restart` read is still such a prefix
 -- (`IsRecovered`).
 use Rattle.std.specs.Prelude.{◌≡◌, ◌≢◌, ◌⊎◌, ◌≤◌, ℕ, Bool, true, false, List, [], ◌∷◌, ◌++◌, Option, Some, IsTrue, nat_le}
@@ -38,7 +41,9 @@ use Rattle.process_disk.specs.Images.{AllAsBefore, EachImage}
 use Rattle.process_tree.specs.declared.entry.Entry.{Entry}
 use Rattle.process_tree.specs.declared.plan.Plan.{Plan}
 use Rattle.process_tree.specs.Conflicts.{do_conflict}
+use Rattle.process_tree.specs.Order.{Each}
 use Rattle.schedule_model.specs.declared.event.Event.{Event}
+use Rattle.schedule_model.specs.declared.event.Event.TheVariants.{Start, End}
 use Rattle.schedule_model.specs.declared.history.History.{History}
 use Rattle.schedule_model.specs.declared.trace_step.TraceStep.{TraceStep}
 use Rattle.schedule_model.specs.Course.{courses_of}
@@ -47,6 +52,8 @@ use Rattle.schedule_model.specs.Laws.{AllAtEnds}
 use Rattle.schedule_model.specs.Reduction.{AreReduced, applied_all, is_serial}
 use Rattle.reduction_trace.specs.Whole.{completed_history}
 use Rattle.commute_table.specs.declared.catalog.Catalog.{Catalog}
+use Rattle.value_conflict.specs.ValueConflict.{IsValueSound}
+use Rattle.value_rules.specs.HistoryValues.{KeepsValues, StandsBefore}
 use Rattle.machine_model.specs.Laws.{next_in_restart}
 use Rattle.machine_model.specs.State.{is_exhausted}
 use Rattle.process_core.specs.Cores.{CoreState, IsCore, courses_in, history_of, moment_of, opened_on}
@@ -75,9 +82,11 @@ use Rattle.scenario_run.specs.Scenario.{IsScenarioRead}
 use Rattle.session_run.specs.Playthrough.{HasPlayed}
 use Rattle.session_run.specs.Session.{IsSessionRead}
 use Rattle.session_text.specs.declared.line.Line.{Line}
+use Rattle.serve_run.specs.Dialogue.{Dialogue, IsAskedBy}
 use Rattle.serve_run.specs.Serve.{IsServeRead, IsSpoken}
 use Rattle.process_top.specs.Run.{first_gate, first_gates, gates_asked}
 use Rattle.process_top.specs.Worlds.{BoxState, World, world}
+use Rattle.process_top.specs.Values.{BooksHave}
 use Rattle.engine_calls.specs.Acknowledged.{ComeInTurn, IsUnderWay, acknowledged, events_of}
 use Rattle.engine_calls.specs.Opened.{FromOpening}
 use Rattle.scenario_run.specs.Run.{HasGone}
@@ -108,22 +117,23 @@ CameBy (Some Session) gates before after c h now =
     × IsSessionRead before after c plans lines × (active h.events ≡ [])
     × HasPlayed c plans (opened_on c.conflicts h.plans h.events) now lines text status
 CameBy (Some Serve) gates before after c h now =
-    (plans : List Plan) × (first : ℕ) × (taken answers : List ℕ) × (status : Status)
-    × IsServeRead before after c plans first taken × IsSpoken c plans h first now taken after.left answers status
+    (plans : List Plan) × (first : ℕ) × (taken : List ℕ) × (d : Dialogue) × (status : Status)
+    × IsServeRead before after c plans first taken × IsSpoken c plans h first now taken after.left d status
 CameBy (Some Restart) gates before after c h now = IsCompleting (first_gate gates) c h now
 CameBy o gates before after c h now = ⊥
 
 -- The history of the machine with what may have been under way: the event of a piece that is out, those of several, a start of the
--- scenario's, or the next event of the completion. In a dialogue it may be the start of another plan too, as a line may spell one
--- out.
+-- scenario's, or the next event of the completion. In a dialogue a start is under way only where the line that was taken last, and
+-- whose answer was not given, asks for one: by the name of a process of the scenario, or as it spells it out.
 abbrev pub IsAhead : Option Command → Input → Input → Catalog → History → CoreState → History → Type 0
 IsAhead (Some (Run workers)) before after c h now k =
     (plans : List Plan) × IsScenarioRead before after c plans × IsUnderWay plans now k
 IsAhead (Some Session) before after c h now k =
     (plans : List Plan) × (lines : List Line) × IsSessionRead before after c plans lines × IsUnderWay plans now k
 IsAhead (Some Serve) before after c h now k =
-    (plans : List Plan) × (first : ℕ) × (taken : List ℕ) × IsServeRead before after c plans first taken × (spelled : List Plan)
-    × IsUnderWay (plans ++ spelled) now k
+    (plans : List Plan) × (first : ℕ) × (taken : List ℕ) × (d : Dialogue) × (status : Status)
+    × IsServeRead before after c plans first taken × IsSpoken c plans h first now taken after.left d status
+    × (asked : List Plan) × Each (IsAskedBy c plans d.unanswered) asked × IsUnderWay asked now k
 IsAhead (Some Restart) before after c h now k = IsNextHistory h now k
 IsAhead o before after c h now k = ⊥
 
@@ -319,6 +329,15 @@ pub record IsCompleted {S K R : Type 0} (c : Catalog) (read : History) (again la
   pub reduced : AreReduced (do_conflict c.conflicts) (acts (completed_history read)) list
   -- which is serial
   pub serial : IsTrue (is_serial list)
+  -- where the catalog names each conflict in value: executed on empty books, the list leaves what the completed history leaves; each of
+  -- its steps, unless it adds or takes, finds what it found there; and where nothing was barred there, and no take has a negative
+  -- amount, nothing is barred in it
+  pub keeps : IsValueSound c → KeepsValues c.ops read.plans (acts (completed_history read)) list
+  -- so the books have the values that it leaves
+  pub values : IsValueSound c → BooksHave c read list last.files.disk.files
+  -- who ended before another started stands before it in the list
+  pub order : (front between rest : List Event) (i k : ℕ) → read.events ≡ front ++ End i ∷ between ++ Start k ∷ rest
+      → StandsBefore i k list
 
 -- The sentence: what `restart` makes of files that a stop left at a moment of a call, where nothing goes wrong.
 pub record IsRestored {S K R : Type 0} (c : Catalog) (h : History) (MayBeAhead : History → Type 0) (now : CoreState)

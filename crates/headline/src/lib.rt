@@ -3,9 +3,11 @@
 //! `specs/Headline` quotes the sentence and says what each part of it is: what a stopped call leaves behind, on what premises a
 //! restart follows it, and what the restart makes of that. `stops_are_restored` proves it of any calls that were answered as
 //! `process_top` says, over any sources, sinks, racks, boxes and gates. `specs/Chains` says it of any number of calls in one folder,
-//! one after another, and `nothing_is_lost` proves that. Nothing here runs.
+//! one after another, and `nothing_is_lost` proves that. `specs/Answered` says of the answers of a dialogue what a driver may rely on, and
+//! `answers_are_kept` proves it. Nothing here runs.
 #![tactic(auto)]
 
+ghost use Rattle.headline.specs.Answered.{AnswersAreKept};
 ghost use Rattle.headline.specs.Chains.{ChainsLoseNothing};
 ghost use Rattle.headline.specs.Headline.{Headline, StopsAreRestored};
 
@@ -13,6 +15,7 @@ use history_opening::sound_files_are_opened;
 use process_disk::Rack;
 use process_engine::Gate;
 use process_flow::{Sink, Source};
+use process_top::printed_lists_keep_values;
 use resource_box::Resource;
 use subsystem_store::books_are_read_back;
 
@@ -25,6 +28,7 @@ pub fn stops_are_restored<S: Source, K: Sink, R: Rack + Drop, B: Resource, G: Ga
 {
     sound_files_are_opened();
     books_are_read_back();
+    printed_lists_keep_values();
 }
 
 /// However many such calls follow one another in one folder, ended or stopped: each reads a history that begins with all that was
@@ -34,4 +38,11 @@ pub fn nothing_is_lost<S: Source, K: Sink, R: Rack + Drop, B: Resource, G: Gate>
 {
     sound_files_are_opened();
     books_are_read_back();
+    printed_lists_keep_values();
 }
+
+/// Whatever `serve` answered is there for the next call: what is read of files that a stop left, no sooner than an answer was whole,
+/// begins with all that the machine had come to by then.
+pub fn answers_are_kept<S: Source, K: Sink, R: Rack + Drop, B: Resource, G: Gate>()
+    ensures { AnswersAreKept S.Source K.Sink R.Rack B.Resource G.Gate }
+{}

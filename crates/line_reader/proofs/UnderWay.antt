@@ -60,3 +60,10 @@ pub none_ready : {X : Type 0} (most : ℕ) (ready left behind line longer : List
 none_ready most ready left behind line longer true is called f = absurd (cc)
 none_ready most ready left behind line longer false is (inl none) f = none
 none_ready most ready left behind line longer false is (inr same) f = ap (cut 10) (sym same.0) ∙ f.0
+
+-- where none stands there and no more bytes come, none stands in all that came
+pub none_there : (most : ℕ) (ready left behind more : List ℕ) (before now : Option (List ℕ)) (line longer : List ℕ) (has_line : Bool) → has_line ≡ false
+    → (w : IsUnderWay most ready left before now line) → IsFrontTaken most left behind line longer has_line → more ≡ [] → cut 10 (ready ++ (w.given ++ more)) ≡ None
+none_there most ready left behind more before now line longer true is w f none = absurd (cc)
+none_there most ready left behind more before now line longer false is w f none =
+    ap (λ bs. cut 10 (ready ++ (w.given ++ bs))) none ∙ (ap (λ bs. cut 10 (ready ++ bs)) (append-nil w.given) ∙ (ap (cut 10) w.whole ∙ cut-nowhere 10 w.front left w.none f.0))

@@ -101,7 +101,8 @@ impl LineReader {
         requires { self.old ≡ [] }
         ensures more { IfOk result (λ _. Consumes (S.left source.old) (S.left source.new) self.new) }
         ensures end { IfOk result (λ more. more ≡ false → (self.new ≡ []) × IsAtEnd (S.left source.new)) }
-        ensures gave { IfErr result (λ _. (given : List ℕ) × Consumes (S.left source.old) (S.left source.new) given) }
+        ensures gave { IfErr result (λ e. (given : List ℕ) × Consumes (S.left source.old) (S.left source.new) given
+            × (e ≡ TakeError.ReadFault → given ≡ [])) }
         ensures fault { IsErrOf result TakeError.ReadFault → Rose (S.faults source.old) (S.faults source.new) }
         ensures later { S.faults source.old ≤ S.faults source.new }
         ensures quiet { OnOk result (S.faults source.new ≡ S.faults source.old) }
@@ -126,7 +127,9 @@ impl LineReader {
         most: u32,
     ) -> Result<Taken, TakeError>
         ensures taken { IfOk result (IsTaken most self.old self.new (S.left source.old) (S.left source.new)) }
-        ensures gave { IfErr result (λ _. (given : List ℕ) × Consumes (S.left source.old) (S.left source.new) given) }
+        // Where a call of the source failed, no line was there.
+        ensures gave { IfErr result (λ e. (given : List ℕ) × Consumes (S.left source.old) (S.left source.new) given
+            × (e ≡ TakeError.ReadFault → cut 10 (self.old ++ given) ≡ None)) }
         // A line that is there is taken without a call of the source.
         ensures at_once { cut 10 self.old ≢ None → source.new ≡ source.old }
         ensures fault { IsErrOf result TakeError.ReadFault → Rose (S.faults source.old) (S.faults source.new) }

@@ -1,7 +1,6 @@
-//! The program: its words, standard input, standard output, standard error and the files of the current folder.
+//! The program: its words, standard input, standard output, standard error and the system's files.
 #![tactic(auto)]
 
-use file_rack::SystemFolder;
 use process_program::program_of_system;
 use std::env;
 use std::process::ExitCode;
@@ -11,9 +10,9 @@ fn main(rt: HostRuntime) -> ExitCode {
         &rt,
         rt.alloc(),
         env::args(&rt),
+        &rt,
         rt.stdin(),
         rt.stdout(),
         rt.stderr(),
-        SystemFolder::new(&rt),
     )
 }

@@ -1,7 +1,6 @@
 //! The program of `process_main`, whose stored run here is a `show` of the files of such a run.
 #![tactic(auto)]
 
-use file_rack::SystemFolder;
 use process_program::program_of_system;
 use std::env;
 use std::process::ExitCode;
@@ -11,9 +10,9 @@ fn main(rt: HostRuntime) -> ExitCode {
         &rt,
         rt.alloc(),
         env::args(&rt),
+        &rt,
         rt.stdin(),
         rt.stdout(),
         rt.stderr(),
-        SystemFolder::new(&rt),
     )
 }

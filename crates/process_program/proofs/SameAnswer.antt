@@ -1,9 +1,8 @@
--- The same answer, told of equal words and of an equal number, and of what is in a source in place of it.
+-- The same answer, told of an equal world and of an equal number, and of what is in a source in place of it.
 use Rattle.std.specs.Prelude.{List, Option}
-use Rattle.std.proofs.Common.{◌≡◌, ℕ, map, ap, subst, sym, ◌∙◌, inl}
-use Rattle.std.specs.Prelude.{not, replicate, Some, None, IfSome}
+use Rattle.std.proofs.Common.{◌≡◌, ℕ, map, ap, subst, sym, ◌∙◌}
+use Rattle.std.specs.Prelude.{not, replicate, Some, None}
 use Rattle.std.specs.Option.{option_map}
-use Rattle.std.specs.Io.KnownBytes.{Consumes}
 use Rattle.process_flow.specs.declared.source.Source.{Ghosts as Sources}
 use Rattle.process_flow.specs.declared.sink.Sink.{Ghosts as Sinks}
 use Rattle.process_disk.specs.declared.rack.Rack.{Ghosts as Racks}
@@ -13,20 +12,20 @@ use Rattle.process_flow.specs.Causes.{Rose}
 use Rattle.program_words.specs.Commands.{asked}
 use Rattle.command_input.specs.Inputs.{Input, input}
 use Rattle.command_input.specs.Outputs.{output}
+use Rattle.kept_source.specs.Keeping.{IsKeptOf}
 use Rattle.diagnostics.specs.Diagnostics.{IsSaidBeside}
 use Rattle.process_top.specs.Worlds.{BoxState, GatesState, World}
 use Rattle.process_top.specs.Run.{gates_asked}
 use Rattle.process_top.specs.Commands.{Answers, DoesItsWork, IsDueTo, only_reads}
-use Rattle.process_program.specs.Ends.{EndsSo, RackOver, world_over}
+use Rattle.process_program.specs.Ends.{AnswersSo, RackOver, world_over}
 use Rattle.process_program.specs.Own.{Own, empty_boxes, new_gates, new_own}
 
--- an answer to equal words, from an equal world, at an equal number
-pub same_answer : {S K D : Type 0} (words words' : List (List ℕ)) (before before' after : World S K D) (number number' : ℕ) (refusal : Option Refusal) → words ≡ words' → before ≡ before' → number ≡ number'
-    → Answers words before after number refusal → Answers words' before' after number' refusal
-same_answer words words' before before' after number number' refusal by_words by_before by_number answers =
-    subst (λ n. Answers words' before' after n refusal) by_number
-    (subst (λ b. Answers words' b after number refusal) by_before
-    (subst (λ w. Answers w before after number refusal) by_words answers))
+-- an answer from an equal world, at an equal number
+pub same_answer : {S K D : Type 0} (words : List (List ℕ)) (before before' after : World S K D) (number number' : ℕ) (refusal : Option Refusal) → before ≡ before' → number ≡ number'
+    → Answers words before after number refusal → Answers words before' after number' refusal
+same_answer words before before' after number number' refusal by_before by_number answers =
+    subst (λ n. Answers words before' after n refusal) by_number
+    (subst (λ b. Answers words b after number refusal) by_before answers)
 
 -- a world, seen over this source
 abbrev pub seen_over : {S T K R : Type 0} → Sources S → World T K R → S → World S K R
@@ -70,6 +69,8 @@ answer_seen s words before after number refusal answers source source' same same
   untouched = answers.untouched;
   unread = λ none. stays (answers.unread none);
   early = answers.early;
+  early_status = answers.early_status;
+  listed = answers.listed;
 }
 
 -- boxes and gates with which a call begins
@@ -81,36 +82,33 @@ pub gates_are_new : (gates : List PlainState) → gates ≡ replicate 16 (record
     → record { answers = λ p. Some (plain_answer p); counts = map (λ g. record { asked = g.calls; refusals = g.refusals }) gates } ≡ new_gates
 gates_are_new gates are = ap {B = GatesState} (λ (gs : List PlainState). record { answers = λ p. Some (plain_answer p); counts = map (λ g. record { asked = g.calls; refusals = g.refusals }) gs }) are
 
--- what is answered over a rack that was never called, with new boxes and gates, is how the call ends
-pub ends_over_new : {S K E R D : Type 0} (s : Sources S) (k : Sinks K) (e : Sinks E) (r : Racks R) (over : RackOver R D) (words words' : List (List ℕ)) (source source' : S) (sink sink' : K) (errors errors' : E) (folder : D)
+-- what is answered over a rack that was never called, with new boxes and gates, is so answered
+pub answers_over_new : {S K E R D : Type 0} (s : Sources S) (k : Sinks K) (e : Sinks E) (r : Racks R) (over : RackOver R D) (words : List (List ℕ)) (source source' : S) (sink sink' : K) (errors errors' : E) (folder : D)
     (rack rack' : R) (boxes boxes' : List BoxState) (gates gates' : GatesState) (number number' : ℕ) (refusal : Option Refusal) (given : Option (List ℕ)) → over.folder rack ≡ folder
-    → over.writes rack ≡ not (only_reads words') → over.is_new rack → words ≡ words' → number ≡ number' → boxes ≡ empty_boxes → gates ≡ new_gates
+    → over.writes rack ≡ not (only_reads words) → over.is_new rack → number ≡ number' → boxes ≡ empty_boxes → gates ≡ new_gates
     → Answers words (world_over s k r source sink rack (record { boxes = boxes; gates = gates })) (world_over s k r source' sink' rack' (record { boxes = boxes'; gates = gates' })) number refusal
-    → IfSome given (Consumes (s.left source) (s.left source')) → IsSaidBeside words' number refusal given (output e errors) (output e errors')
-    → EndsSo s k e r over words' source sink errors folder source' sink' errors' rack' number'
-ends_over_new s k e r over words words' source source' sink sink' errors errors' folder rack rack' boxes boxes' gates gates' number number' refusal given by_folder by_writes is_new by_words by_number empty new answers
-    consumed said =
-    inl (
-      rack,
-      by_folder,
-      by_writes,
-      is_new,
-      (
-        record { boxes = boxes'; gates = gates' },
-        refusal,
-        same_answer words words' (world_over s k r source sink rack (record { boxes = boxes; gates = gates })) (world_over s k r source sink rack new_own) (world_over s k r source' sink' rack' (record { boxes = boxes'; gates = gates' }))
-            number number' refusal by_words (ap (world_over s k r source sink rack) (own_is_new boxes gates empty new)) by_number answers,
-        (
-          given,
-          consumed,
-          subst (λ n. IsSaidBeside words' n refusal given (output e errors) (output e errors')) by_number said,
-        ),
-      ),
-    )
+    → IsKeptOf (s.left source) (s.left source') given → IsSaidBeside words number refusal given (output e errors) (output e errors')
+    → AnswersSo s k e r over words source sink errors folder source' sink' errors' rack' number'
+answers_over_new s k e r over words source source' sink sink' errors errors' folder rack rack' boxes boxes' gates gates' number number' refusal given by_folder by_writes is_new by_number empty new answers consumed said = (
+  rack,
+  by_folder,
+  by_writes,
+  is_new,
+  (
+    record { boxes = boxes'; gates = gates' },
+    refusal,
+    same_answer words (world_over s k r source sink rack (record { boxes = boxes; gates = gates })) (world_over s k r source sink rack new_own) (world_over s k r source' sink' rack' (record { boxes = boxes'; gates = gates' }))
+        number number' refusal (ap (world_over s k r source sink rack) (own_is_new boxes gates empty new)) by_number answers,
+    (
+      given,
+      consumed,
+      subst (λ n. IsSaidBeside words n refusal given (output e errors) (output e errors')) by_number said,
+    ),
+  ),
+)
 
--- what was handed on since a source had this left
-pub given_inside : {A : Type 0} (before opening left after : Option (List ℕ)) (bytes : A → List ℕ) (kept : Option A) → before ≡ opening → left ≡ after → IfSome kept (λ k. Consumes opening left (bytes k))
-    → IfSome (option_map bytes kept) (Consumes before after)
-given_inside before opening left after bytes None by_opening by_after given = tt
-given_inside before opening left after bytes (Some k) by_opening by_after given =
-    subst (λ b. Consumes b after (bytes k)) (sym by_opening) (subst (λ a. Consumes opening a (bytes k)) by_after given)
+-- what is kept of what was handed on since a source had this left
+pub given_inside : {A : Type 0} (before opening left after : Option (List ℕ)) (bytes : A → List ℕ) (kept : Option A) → before ≡ opening → left ≡ after → IsKeptOf opening left (option_map bytes kept)
+    → IsKeptOf before after (option_map bytes kept)
+given_inside before opening left after bytes kept by_opening by_after given =
+    subst (λ b. IsKeptOf b after (option_map bytes kept)) (sym by_opening) (subst (λ a. IsKeptOf opening a (option_map bytes kept)) by_after given)

@@ -13,16 +13,20 @@ use Rattle.restart_run.specs.Boxes.{HaveValuesOf}
 use Rattle.replay_run.specs.Replay.{HaveValuesOfFile}
 use Rattle.serve_run.specs.declared.command.Ending.{Ending}
 use Rattle.serve_run.specs.declared.command.Ending.TheVariants as endings
+use Rattle.serve_run.specs.Dialogue.{Dialogue, IsDialogueTold}
 use Rattle.serve_run.specs.Serve.{OnEnding}
 use Rattle.process_top.specs.Worlds.{BoxState, World}
 use Rattle.history_files.specs.Boxes.{AreBoxes}
 use Rattle.command_input.specs.FilesLeft.{AreLeft}
-use Rattle.process_top.specs.Replies.{Reply, checked, created, ended, served, shown, accepted, printed, refused, is_refused, refused_of, status_of, text_of, IsReplyTold}
+use Rattle.process_top.specs.Replies.{Reply, checked, created, ended, served, shown, accepted, printed, refused, is_said, refused_of, status_of, text_of, IsReplyTold}
 use Rattle.process_top.specs.Told.{Output, IsRefusalTold, IsTold}
 use Rattle.process_top.specs.Said.{refused_at, EndsBy, Says, HasWorked, IsResultTold}
 use Rattle.process_top.specs.Run.{gates_asked}
 use Rattle.process_top.specs.Commands.{comes_first, is_early, is_verdict, AnswersTo, AreOthersAsBefore, IsDueTo, needs}
+use Rattle.process_top.specs.Values.{ListsAreOfValues}
 use Rattle.process_top.proofs.Complete.{Worked, done_or_wanting, worked_due, worked_held}
+use Rattle.process_top.proofs.DueValues.{due_tells}
+use Rattle.process_top.proofs.EarlyStatuses.{early_status_leaves}
 use Rattle.process_top.proofs.RefusedStatuses.{refused_undone}
 
 -- the one status of verdicts
@@ -43,33 +47,33 @@ verdict_is statuses.NotReduced is = absurd (cc)
 verdict_is statuses.NoMemory is = absurd (cc)
 
 -- a reply that is no refusal was told as its text and its status
-said_told : (reply : Reply) (said : Said) (old new : Output) (at : Status) → is_refused reply ≡ false → said.text.items ≡ text_of reply → said.status ≡ status_of reply
+said_told : (reply : Reply) (said : Said) (old new : Output) (at : Status) → is_said reply ≡ true → said.text.items ≡ text_of reply → said.status ≡ status_of reply
     → IsTold said.status said.text.items old new at → IsReplyTold reply old new at
 said_told reply said old new at isnt text status told = by_reply reply isnt
     (subst (λ (t : List ℕ). IsTold (status_of reply) t old new at) text (subst (λ (s : Status). IsTold s said.text.items old new at) status told))
   where
-    by_reply : (reply : Reply) → is_refused reply ≡ false → IsTold (status_of reply) (text_of reply) old new at → IsReplyTold reply old new at
+    by_reply : (reply : Reply) → is_said reply ≡ true → IsTold (status_of reply) (text_of reply) old new at → IsReplyTold reply old new at
     by_reply (checked ps vs) isnt told = told
     by_reply created isnt told = told
     by_reply (ended s) isnt told = told
-    by_reply (served text status) isnt told = told
+    by_reply (served d status) isnt told = absurd (cc)
     by_reply (shown c h) isnt told = told
     by_reply accepted isnt told = told
     by_reply (printed text) isnt told = told
     by_reply (refused r) isnt told = absurd (cc)
 
 -- and refuses nothing
-none_refused : (reply : Reply) → is_refused reply ≡ false → refused_of reply ≡ None
+none_refused : (reply : Reply) → is_said reply ≡ true → refused_of reply ≡ None
 none_refused (checked ps vs) isnt = refl
 none_refused created isnt = refl
 none_refused (ended s) isnt = refl
-none_refused (served text status) isnt = refl
+none_refused (served d status) isnt = refl
 none_refused (shown c h) isnt = refl
 none_refused accepted isnt = refl
 none_refused (printed text) isnt = refl
 none_refused (refused r) isnt = absurd (cc)
 
-module _ {S K R : Type 0} (o : Option Command) (before after : World S K R) (number : ℕ) (refusal : Option Refusal) (at : Status) (numbered : number ≡ number_of at) (left : AreLeft before.files after.files)
+module _ {S K R : Type 0} (law : ListsAreOfValues) (o : Option Command) (before after : World S K R) (number : ℕ) (refusal : Option Refusal) (at : Status) (numbered : number ≡ number_of at) (left : AreLeft before.files after.files)
     (boxes : AreBoxes (λ b. b.kind) after.boxes) (kept : (needs o).boxes ≡ false → after.boxes ≡ before.boxes) (gates : AreOthersAsBefore (needs o).gates before.gates after.gates)
     (unasked : (needs o).gate ≡ false → after.gates ≡ before.gates) (untouched : (needs o).files ≡ false → after.rack ≡ before.rack)
     (unread : (needs o).input ≡ false → after.source ≡ before.source) where
@@ -97,18 +101,20 @@ module _ {S K R : Type 0} (o : Option Command) (before after : World S K R) (num
     kept = kept;
     values = values;
     replayed = replayed;
+    listed = due_tells law o (gates_asked before.gates after.gates) before.input after.input before.files after.files reply due;
     gates = gates;
     unasked = unasked;
     untouched = untouched;
     unread = unread;
     early = early;
+    early_status = λ is. early_status_leaves before after o (gates_asked before.gates after.gates) reply at due told untouched early is;
   }
 
-  said_early : (reply : Reply) (s : Status) → is_refused reply ≡ false → s ≡ status_of reply → (s ≡ statuses.IllFormed → after.rack ≡ before.rack) → is_early o reply ≡ true → after.rack ≡ before.rack
+  said_early : (reply : Reply) (s : Status) → is_said reply ≡ true → s ≡ status_of reply → (s ≡ statuses.IllFormed → after.rack ≡ before.rack) → is_early o reply ≡ true → after.rack ≡ before.rack
   said_early (checked ps vs) s isnt is same early = absurd (cc)
   said_early created s isnt is same early = absurd (cc)
   said_early (ended said) s isnt is same early = same (is ∙ verdict_is said.status early)
-  said_early (served text status) s isnt is same early = absurd (cc)
+  said_early (served d status) s isnt is same early = absurd (cc)
   said_early (shown c h) s isnt is same early = absurd (cc)
   said_early accepted s isnt is same early = absurd (cc)
   said_early (printed text) s isnt is same early = absurd (cc)
@@ -149,10 +155,10 @@ module _ {S K R : Type 0} (o : Option Command) (before after : World S K R) (num
       answered_by (refused r) says told refuses (worked_due o before after (Err r) at has told later) early (λ asks is known. absurd (never_done r told is)) (λ asks is. absurd (never_done r told is))
 
   -- a dialogue that was held and told
-  held_is_answered : (text : List ℕ) (status : Status) → IsDue (served text status) → IsTold status text before.output after.output at → refusal ≡ None → WorkedTo after.output (endings.Told at)
+  held_is_answered : (d : Dialogue) (status : Status) → IsDue (served d status) → IsDialogueTold d status before.output after.output at → refusal ≡ None → WorkedTo after.output (endings.Told at)
       → ¬ o ≡ Some Restart → ¬ o ≡ Some Replay → AnswersTo o before after number refusal
-  held_is_answered text status due told refuses has none no_replay =
-      answered_by (served text status) due told refuses (worked_held o before after text status at due has) (λ early. absurd cc) (λ asks is known. absurd (none asks)) (λ asks is. absurd (no_replay asks))
+  held_is_answered d status due told refuses has none no_replay =
+      answered_by (served d status) due told refuses (worked_held o before after d status at due has) (λ early. absurd cc) (λ asks is known. absurd (none asks)) (λ asks is. absurd (no_replay asks))
 
   -- what a command came to, and what was told of it then
   pub ending_is_answered : (out : Output) (ending : Ending) → EndsBy IsDue before.output out ending
@@ -161,10 +167,10 @@ module _ {S K R : Type 0} (o : Option Command) (before after : World S K R) (num
       → OnEnding (λ _. ⊤) (λ found. IfOk found (λ s. s.status ≡ statuses.IllFormed → after.rack ≡ before.rack)) ending
       → (o ≡ Some Restart → OnEnding (λ _. ⊥) (λ found. IfOk found HaveBookValuesAt) ending)
       → (o ≡ Some Replay → OnEnding (λ _. ⊥) (λ found. IfOk found HaveReplayedValuesAt) ending) → AnswersTo o before after number refusal
-  ending_is_answered out (endings.Told s) (text, status, due, said) told refuses later has early verdict values replayed =
+  ending_is_answered out (endings.Told s) (d, status, due, said) told refuses later has early verdict values replayed =
       let same : s ≡ at = sym told.0 in
       let put : out ≡ after.output = sym told.1 in
-      held_is_answered text status due (subst (λ (x : Status). IsTold status text before.output after.output x) same (subst (λ (o : Output). IsTold status text before.output o s) put said))
+      held_is_answered d status due (subst (λ (x : Status). IsDialogueTold d status before.output after.output x) same (subst (λ (o : Output). IsDialogueTold d status before.output o s) put said))
       refuses
       (subst (λ (x : Status). WorkedTo after.output (endings.Told x)) same (subst (λ (o : Output). WorkedTo o (endings.Told s)) put has)) values replayed
   ending_is_answered out (endings.Due found) (says, none) told refuses later has early verdict values replayed =

@@ -28,6 +28,7 @@ use Rattle.worker_gate.specs.ManyGates.{AskedGates}
 use Rattle.command_input.specs.declared.said.Said.{Said}
 use Rattle.session_run.specs.Completeness.{AreAllAnswered}
 use Rattle.serve_run.specs.declared.command.Ending.TheVariants as endings
+use Rattle.serve_run.specs.Dialogue.{Dialogue}
 use Rattle.process_top.specs.Run.{gates_asked, IsRunComplete}
 use Rattle.process_top.specs.Restart.{IsRestartComplete}
 use Rattle.process_top.specs.Bulk.{IsBulkComplete}
@@ -165,26 +166,26 @@ worked_due (Some (Help about)) before after found status has told later = tt
 worked_due (Some Version) before after found status has told later = tt
 
 -- of a dialogue that was held, which no other command does
-pub worked_held : {S K R : Type 0} (o : Option Command) (before after : World S K R) (text : List ℕ) (at status : Status)
-    → IsDueTo o (gates_asked before.gates after.gates) before.input after.input before.files after.files (served text at)
+pub worked_held : {S K R : Type 0} (o : Option Command) (before after : World S K R) (d : Dialogue) (at status : Status)
+    → IsDueTo o (gates_asked before.gates after.gates) before.input after.input before.files after.files (served d at)
     → HasWorked o before.input after.input before.files after.files before.output after.output (endings.Told status) → Worked o before after status
-worked_held None before after text at status due has = tt
-worked_held (Some Check) before after text at status due has = tt
-worked_held (Some (Init values)) before after text at status due has = tt
-worked_held (Some (Run workers)) before after text at status due has = absurd due
-worked_held (Some Session) before after text at status due has = absurd due
-worked_held (Some Serve) before after text at status due has = λ quiet bytes c plans h scene known sound.
+worked_held None before after d at status due has = tt
+worked_held (Some Check) before after d at status due has = tt
+worked_held (Some (Init values)) before after d at status due has = tt
+worked_held (Some (Run workers)) before after d at status due has = absurd due
+worked_held (Some Session) before after d at status due has = absurd due
+worked_held (Some Serve) before after d at status due has = λ quiet bytes c plans h scene known sound.
     well_held status (has bytes c plans h scene known sound (record { source = quiet.input refl; rack = quiet.files refl }) quiet.output)
-worked_held (Some Restart) before after text at status due has = absurd due
-worked_held (Some Show) before after text at status due has = tt
-worked_held (Some Replay) before after text at status due has = absurd due.0
-worked_held (Some Verify) before after text at status due has = tt
-worked_held (Some (Audit false)) before after text at status due has = absurd due.0
-worked_held (Some (Audit true)) before after text at status due has = absurd due.0
-worked_held (Some (Gen number count)) before after text at status due has = tt
-worked_held (Some (Bulk number count)) before after text at status due has = absurd due
-worked_held (Some (Help about)) before after text at status due has = tt
-worked_held (Some Version) before after text at status due has = tt
+worked_held (Some Restart) before after d at status due has = absurd due
+worked_held (Some Show) before after d at status due has = tt
+worked_held (Some Replay) before after d at status due has = absurd due.0
+worked_held (Some Verify) before after d at status due has = tt
+worked_held (Some (Audit false)) before after d at status due has = absurd due.0
+worked_held (Some (Audit true)) before after d at status due has = absurd due.0
+worked_held (Some (Gen number count)) before after d at status due has = tt
+worked_held (Some (Bulk number count)) before after d at status due has = absurd due
+worked_held (Some (Help about)) before after d at status due has = tt
+worked_held (Some Version) before after d at status due has = tt
 
 -- a show
 show_done : (files files_after : Files) (reply : Reply) (status : Status) → IsShowDue files files_after reply → status ≡ status_of reply → ¬ Rose files.faults files_after.faults → IsShowComplete files.disk status
@@ -312,7 +313,7 @@ status_told (refused r) old new status (inr told) quiet = inr (told_well _ _ old
 status_told (checked ps vs) old new status told quiet = inl (told_well _ _ old new status told quiet)
 status_told created old new status told quiet = inl (told_well _ _ old new status told quiet)
 status_told (ended said) old new status told quiet = inl (told_well _ _ old new status told quiet)
-status_told (served text at) old new status told quiet = inl (told_well _ _ old new status told quiet)
+status_told (served d at) old new status told quiet = inl (told_well _ _ told.mid new status told.told (λ rose. quiet (subst (λ f. Rose f new.faults) told.quiet rose)))
 status_told (shown c h) old new status told quiet = inl (told_well _ _ old new status told quiet)
 status_told accepted old new status told quiet = inl (told_well _ _ old new status told quiet)
 status_told (printed text) old new status told quiet = inl (told_well _ _ old new status told quiet)

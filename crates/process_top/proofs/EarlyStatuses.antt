@@ -4,10 +4,9 @@
 use Rattle.std.proofs.Common.{◌≡◌, ◌||◌, ℕ, List, [], ◌∷◌, Bool, true, false, Option, Some, None, Ok, Err, refl, sym, ap, subst, ◌∙◌, inl, inr}
 use Rattle.process_journal.specs.declared.errors.JournalError.{JournalError}
 use Rattle.process_journal.specs.declared.errors.JournalError.TheVariants as journal
-use Rattle.program_words.specs.Commands.{asked}
 use Rattle.program_words.specs.declared.reading.Command.{Command}
 use Rattle.program_words.specs.declared.reading.Command.TheVariants.{Check, Init, Run, Session, Serve, Restart, Show, Replay, Verify, Audit, Gen, Bulk, Help, Version}
-use Rattle.command_refusals.specs.Statuses.{IsOneOf, number_of}
+use Rattle.command_refusals.specs.Statuses.{IsOneOf}
 use Rattle.command_refusals.specs.declared.status.Status.{Status}
 use Rattle.command_refusals.specs.declared.status.Status.TheVariants as statuses
 use Rattle.command_refusals.specs.declared.refusal.Refusal.{Refusal}
@@ -43,28 +42,18 @@ use Rattle.command_input.specs.declared.said.Said.{Said}
 use Rattle.process_text.specs.declared.error.TextError.{TextError}
 use Rattle.process_text.specs.declared.error.TextError.TheVariants as texts
 use Rattle.driver_answers.specs.Serving.{DriverState}
-use Rattle.serve_run.specs.Dialogue.{EndsWith, number_behind}
+use Rattle.serve_run.specs.Dialogue.{Dialogue, EndsWith, number_behind}
 use Rattle.serve_run.specs.Serve.{IsNotServed, IsServeTold, IsSpoken}
 use Rattle.schedule_model.specs.declared.history.History.{History}
-use Rattle.process_top.specs.Run.{first_gate, first_gates, gates_asked}
+use Rattle.process_top.specs.Run.{first_gate, first_gates}
 use Rattle.process_top.specs.Replies.{Reply, checked, created, ended, served, shown, accepted, printed, refused, status_of, IsReplyTold}
 use Rattle.process_top.specs.Told.{IsTold}
 use Rattle.replay_run.specs.Replay.{IsReplayDue as IsReplayFound}
 use Rattle.replay_run.specs.Soundness.{IsUnsound}
-use Rattle.process_top.specs.Commands.{comes_first, is_commuting, is_early, is_verdict, IsDueTo, Answers, needs}
+use Rattle.process_top.specs.Commands.{comes_first, is_commuting, is_early, is_verdict, IsDueTo, needs}
+use Rattle.process_top.specs.EarlyStatuses.{is_always_early, is_early_for, is_early_in_audit, is_early_in_dialogue, is_early_status}
 use Rattle.audit_run.specs.History.{IsHistoryAuditDue as IsHistoryAuditFound}
 use Rattle.process_top.proofs.Audits.{history_is}
-use Rattle.process_top.proofs.StatusNumbers.{same_status}
-
--- the statuses of what is refused before the rack is called, and of verdicts
-abbrev pub is_early_status : Status → Bool
-is_early_status statuses.BadWords = true
-is_early_status statuses.BadInput = true
-is_early_status statuses.IllFormed = true
-is_early_status statuses.Limit = true
-is_early_status statuses.ReadFault = true
-is_early_status statuses.NotReduced = true
-is_early_status status = false
 
 late_journal : (e : JournalError) → is_early_status (refusal_status (journal_refusal e)) ≡ false
 late_journal journal.DiskFault = refl
@@ -125,39 +114,6 @@ early_init values r before after files files_after not_created is = by_part (in_
     by_part (inl why) = early_catalog values r before after why.0 is
     by_part (inr why) =
         let wrong : false ≡ true = sym (late_create why.1.0) ∙ ap (λ (e : Refusal). is_early_status (refusal_status e)) (sym why.1.1) ∙ is in absurd (cc)
-
--- the statuses that come before the files at each command
-abbrev pub is_always_early : Status → Bool
-is_always_early statuses.BadWords = true
-is_always_early statuses.IllFormed = true
-is_always_early statuses.ReadFault = true
-is_always_early statuses.NotReduced = true
-is_always_early status = false
-
--- and those of them that do so at a command that goes on reading while it calls the rack
-abbrev pub is_early_in_dialogue : Status → Bool
-is_early_in_dialogue statuses.BadWords = true
-is_early_in_dialogue statuses.IllFormed = true
-is_early_in_dialogue statuses.NotReduced = true
-is_early_in_dialogue status = false
-
--- and those that do so where a history is audited, which may end as one that can't be reduced
-abbrev pub is_early_in_audit : Status → Bool
-is_early_in_audit statuses.BadWords = true
-is_early_in_audit statuses.IllFormed = true
-is_early_in_audit statuses.ReadFault = true
-is_early_in_audit status = false
-
--- those that do so at this one: `run`, `session`, `serve` and `replay` read the catalog of the files too, `run` and `bulk` how much they have,
--- and `audit --history` their history
-abbrev pub is_early_for : Option Command → Status → Bool
-is_early_for (Some (Run workers)) s = is_always_early s
-is_early_for (Some Session) s = is_always_early s
-is_early_for (Some Serve) s = is_early_in_dialogue s
-is_early_for (Some Replay) s = is_always_early s
-is_early_for (Some (Audit true)) s = is_early_in_audit s
-is_early_for (Some (Bulk number count)) s = is_always_early s
-is_early_for o s = is_early_status s
 
 always_text : (e : TextError) → is_always_early (error_status e) ≡ true → ⊥
 always_text (texts.BadText line column expected) is = absurd (cc)
@@ -261,15 +217,15 @@ late_dialogue c plans last n u tail now statuses.Exhausted ends is = absurd ends
 late_dialogue c plans last n u tail now statuses.NotReduced ends is = absurd ends
 late_dialogue c plans last n u tail now statuses.NoMemory ends is = absurd (cc)
 
-late_spoken : (c : Catalog) (plans : List Plan) (h : History) (first : ℕ) (now : CoreState) (taken : List ℕ) (left : Option (List ℕ)) (text : List ℕ) (s : Status)
-    → IsSpoken c plans h first now taken left text s → is_early_in_dialogue s ≡ true → ⊥
-late_spoken c plans h first now taken left text s (inl held) is = late_dialogue c plans held.last (number_behind first held.exchanges) held.unanswered held.tail now s held.ends is
-late_spoken c plans h first now taken left text s (inr failed) is =
+late_spoken : (c : Catalog) (plans : List Plan) (h : History) (first : ℕ) (now : CoreState) (taken : List ℕ) (left : Option (List ℕ)) (d : Dialogue) (s : Status)
+    → IsSpoken c plans h first now taken left d s → is_early_in_dialogue s ≡ true → ⊥
+late_spoken c plans h first now taken left d s (inl (front, held)) is = late_dialogue c plans held.last (number_behind first d.exchanges) d.unanswered d.tail now s held.ends is
+late_spoken c plans h first now taken left d s (inr failed) is =
     let wrong : false ≡ true = ap is_early_in_dialogue (sym failed.1) ∙ is in absurd (cc)
 
-late_serve : (before after : Input) (files files_after : Files) (text : List ℕ) (s : Status) → IsServeTold before after files files_after text s → is_early_in_dialogue s ≡ true → ⊥
-late_serve before after files files_after text s (c, plans, first, taken, read, held) is =
-    late_spoken c plans held.history first held.now taken after.left held.answers s held.spoken is
+late_serve : (before after : Input) (files files_after : Files) (d : Dialogue) (s : Status) → IsServeTold before after files files_after d s → is_early_in_dialogue s ≡ true → ⊥
+late_serve before after files files_after d s (c, plans, first, taken, read, held) is =
+    late_spoken c plans held.history first held.now taken after.left d s held.spoken is
 
 serve_said : (before after : Input) (files files_after : Files) (said : Said) → IsNotServed before after files files_after (Ok said) → is_early_in_dialogue said.status ≡ true → is_verdict said.status ≡ true
 serve_said before after files files_after said (inl none) is = subst (λ (s : Status). is_verdict s ≡ true) (sym none.0) refl
@@ -336,7 +292,7 @@ module _ {S K R : Type 0} (before after : World S K R) where
   by_command (Some (Init values)) gates (refused r) due untouched early is = early (early_init values r before.input after.input before.files after.files due is)
   by_command (Some (Init values)) gates (checked ps vs) due untouched early is = absurd due
   by_command (Some (Init values)) gates (ended said) due untouched early is = absurd due
-  by_command (Some (Init values)) gates (served text at) due untouched early is = absurd due
+  by_command (Some (Init values)) gates (served d at) due untouched early is = absurd due
   by_command (Some (Init values)) gates (shown c h) due untouched early is = absurd due
   by_command (Some (Init values)) gates accepted due untouched early is = absurd due
   by_command (Some (Init values)) gates (printed text) due untouched early is = absurd due
@@ -344,7 +300,7 @@ module _ {S K R : Type 0} (before after : World S K R) where
   by_command (Some (Run workers)) gates (refused r) due untouched early is = early (always_refusal r is)
   by_command (Some (Run workers)) gates (checked ps vs) due untouched early is = absurd due
   by_command (Some (Run workers)) gates created due untouched early is = absurd due
-  by_command (Some (Run workers)) gates (served text at) due untouched early is = absurd due
+  by_command (Some (Run workers)) gates (served d at) due untouched early is = absurd due
   by_command (Some (Run workers)) gates (shown c h) due untouched early is = absurd due
   by_command (Some (Run workers)) gates accepted due untouched early is = absurd due
   by_command (Some (Run workers)) gates (printed text) due untouched early is = absurd due
@@ -352,11 +308,11 @@ module _ {S K R : Type 0} (before after : World S K R) where
   by_command (Some Session) gates (refused r) due untouched early is = early (always_refusal r is)
   by_command (Some Session) gates (checked ps vs) due untouched early is = absurd due
   by_command (Some Session) gates created due untouched early is = absurd due
-  by_command (Some Session) gates (served text at) due untouched early is = absurd due
+  by_command (Some Session) gates (served d at) due untouched early is = absurd due
   by_command (Some Session) gates (shown c h) due untouched early is = absurd due
   by_command (Some Session) gates accepted due untouched early is = absurd due
   by_command (Some Session) gates (printed text) due untouched early is = absurd due
-  by_command (Some Serve) gates (served text at) due untouched early is = absurd (late_serve before.input after.input before.files after.files text at due is)
+  by_command (Some Serve) gates (served d at) due untouched early is = absurd (late_serve before.input after.input before.files after.files d at due is)
   by_command (Some Serve) gates (ended said) due untouched early is = early (serve_said before.input after.input before.files after.files said due is)
   by_command (Some Serve) gates (refused r) due untouched early is = early (always_refusal r (dialogue_always (refusal_status r) is))
   by_command (Some Serve) gates (checked ps vs) due untouched early is = absurd due
@@ -368,7 +324,7 @@ module _ {S K R : Type 0} (before after : World S K R) where
   by_command (Some Restart) gates (refused r) due untouched early is = absurd (late_restart (first_gate gates) before.files after.files r due is)
   by_command (Some Restart) gates (checked ps vs) due untouched early is = absurd due
   by_command (Some Restart) gates created due untouched early is = absurd due
-  by_command (Some Restart) gates (served text at) due untouched early is = absurd due
+  by_command (Some Restart) gates (served d at) due untouched early is = absurd due
   by_command (Some Restart) gates (shown c h) due untouched early is = absurd due
   by_command (Some Restart) gates accepted due untouched early is = absurd due
   by_command (Some Restart) gates (printed text) due untouched early is = absurd due
@@ -376,11 +332,11 @@ module _ {S K R : Type 0} (before after : World S K R) where
   by_command (Some (Bulk number count)) gates (refused r) due untouched early is = early (always_refusal r is)
   by_command (Some (Bulk number count)) gates (checked ps vs) due untouched early is = absurd due
   by_command (Some (Bulk number count)) gates created due untouched early is = absurd due
-  by_command (Some (Bulk number count)) gates (served text at) due untouched early is = absurd due
+  by_command (Some (Bulk number count)) gates (served d at) due untouched early is = absurd due
   by_command (Some (Bulk number count)) gates (shown c h) due untouched early is = absurd due
   by_command (Some (Bulk number count)) gates accepted due untouched early is = absurd due
   by_command (Some (Bulk number count)) gates (printed text) due untouched early is = absurd due
-  by_command (Some Show) gates (served text at) due untouched early is = absurd due.0
+  by_command (Some Show) gates (served d at) due untouched early is = absurd due.0
   by_command (Some Show) gates (shown c h) due untouched early is = absurd (cc)
   by_command (Some Show) gates (refused r) due untouched early is =
       let wrong : false ≡ true = sym (late_journal due.0.0) ∙ ap (λ (e : Refusal). is_early_status (refusal_status e)) (sym due.0.1) ∙ is in absurd (cc)
@@ -393,7 +349,7 @@ module _ {S K R : Type 0} (before after : World S K R) where
   by_command (Some Replay) gates (refused r) due untouched early is = early (always_refusal r is)
   by_command (Some Replay) gates (checked ps vs) due untouched early is = absurd due.0
   by_command (Some Replay) gates created due untouched early is = absurd due.0
-  by_command (Some Replay) gates (served text at) due untouched early is = absurd due.0
+  by_command (Some Replay) gates (served d at) due untouched early is = absurd due.0
   by_command (Some Replay) gates (shown c h) due untouched early is = absurd due.0
   by_command (Some Replay) gates accepted due untouched early is = absurd due.0
   by_command (Some Replay) gates (printed text) due untouched early is = absurd due.0
@@ -401,7 +357,7 @@ module _ {S K R : Type 0} (before after : World S K R) where
   by_command (Some (Audit true)) gates (refused r) due untouched early is = early (always_refusal r (audit_always (refusal_status r) is))
   by_command (Some (Audit true)) gates (checked ps vs) due untouched early is = absurd due.0
   by_command (Some (Audit true)) gates created due untouched early is = absurd due.0
-  by_command (Some (Audit true)) gates (served text at) due untouched early is = absurd due.0
+  by_command (Some (Audit true)) gates (served d at) due untouched early is = absurd due.0
   by_command (Some (Audit true)) gates (shown c h) due untouched early is = absurd due.0
   by_command (Some (Audit true)) gates accepted due untouched early is = absurd due.0
   by_command (Some (Audit true)) gates (printed text) due untouched early is = absurd due.0
@@ -437,12 +393,14 @@ module _ {S K R : Type 0} (before after : World S K R) where
   by_reply o s (checked ps vs) old new at told same is = by_told o s _ _ old new at told same is
   by_reply o s created old new at told same is = by_told o s _ _ old new at told same is
   by_reply o s (ended said) old new at told same is = by_told o s _ _ old new at told same is
-  by_reply o s (served text at') old new at told same is = by_told o s _ _ old new at told same is
+  by_reply o s (served d at') old new at told same is = by_told o s at' d.tail told.mid new at told.told same is
   by_reply o s (shown c h) old new at told same is = by_told o s _ _ old new at told same is
   by_reply o s accepted old new at told same is = by_told o s _ _ old new at told same is
   by_reply o s (printed text) old new at told same is = by_told o s _ _ old new at told same is
 
-  pub early_status_leaves : (words : List (List ℕ)) (number : ℕ) (refusal : Option Refusal) (s : Status) → Answers words before after number refusal → is_early_for (asked words) s ≡ true → number ≡ number_of s → after.rack ≡ before.rack
-  early_status_leaves words number refusal s answers is numbered =
-      let same : answers.status ≡ s = same_status answers.status s (sym answers.numbered ∙ numbered) in
-      by_command (asked words) (gates_asked before.gates after.gates) answers.reply answers.due answers.untouched answers.early (by_reply (asked words) s answers.reply before.output after.output answers.status answers.told same is)
+  -- So it is at the status of the call.
+  pub early_status_leaves : (o : Option Command) (gates : AskedGates) (reply : Reply) (status : Status) → IsDueTo o gates before.input after.input before.files after.files reply
+      → IsReplyTold reply before.output after.output status → ((needs o).files ≡ false → after.rack ≡ before.rack) → (is_early o reply ≡ true → after.rack ≡ before.rack)
+      → is_early_for o status ≡ true → after.rack ≡ before.rack
+  early_status_leaves o gates reply status due told untouched early is =
+      by_command o gates reply due untouched early (by_reply o status reply before.output after.output status told refl is)

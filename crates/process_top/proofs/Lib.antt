@@ -10,7 +10,9 @@ pub mod BoxValues
 pub mod FirstGates
 pub mod GatesAsked
 pub mod RefusedStatuses
+pub mod ListedValues
+pub mod DueValues
+pub mod EarlyStatuses
 pub mod Answered
 pub mod StatusNumbers
 pub mod Unread
-pub mod EarlyStatuses

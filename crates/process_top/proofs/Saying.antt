@@ -1,5 +1,5 @@
 -- What the commands say is due.
-use Rattle.std.proofs.Common.{◌≡◌, ℕ, List, Bool, false, Result, Ok, Err, refl, ap, subst, ◌∙◌, if◌then◌else◌, length}
+use Rattle.std.proofs.Common.{◌≡◌, ℕ, List, Bool, true, Result, Ok, Err, refl, ap, subst, ◌∙◌, if◌then◌else◌, length}
 use Rattle.process_tree.specs.declared.tree.Named.{Named}
 use Rattle.commute_table.specs.declared.catalog.Catalog.{Catalog}
 use Rattle.schedule_model.specs.declared.history.History.{History}
@@ -14,7 +14,7 @@ use Rattle.command_refusals.specs.declared.refusal.Refusal.TheVariants as refusa
 use Rattle.command_refusals.specs.Verdicts.{AreLines}
 use Rattle.command_input.specs.Inputs.{Input, IsRead}
 use Rattle.command_input.specs.FilesLeft.{Files}
-use Rattle.process_top.specs.Replies.{Reply, checked, created, ended, refused, is_refused, status_of, text_of}
+use Rattle.process_top.specs.Replies.{Reply, checked, created, ended, refused, is_said, status_of, text_of}
 use Rattle.command_input.specs.declared.said.Said.{Said}
 use Rattle.process_top.specs.Said.{EndsBy, Says}
 use Rattle.process_top.specs.Told.{Output}
@@ -51,7 +51,7 @@ says_so so (Err r) says = so (refused r) says
 
 -- the verdicts on what was read
 pub check_says : (before after : Input) (ps : List Named) (any : Bool) (text : List ℕ) (status : Status) → IsRead before after ps → AreLines ps any text → status ≡ (if any then IllFormed else Done)
-    → (reply : Reply) × (is_refused reply ≡ false) × IsCheckDue before after reply × (text ≡ text_of reply) × (status ≡ status_of reply)
+    → (reply : Reply) × (is_said reply ≡ true) × IsCheckDue before after reply × (text ≡ text_of reply) × (status ≡ status_of reply)
 check_says before after ps any text status read are is = (checked ps are.0, refl, (read, are.1), are.2, is ∙ ap (λ b. if b then IllFormed else Done) are.3)
 
 -- want of memory for the report of a journal

@@ -19,6 +19,7 @@ use Rattle.process_top.specs.Replies.{refused}
 use Rattle.process_top.specs.Told.{Output, IsRefusalTold}
 use Rattle.process_top.specs.Said.{HasWorked}
 use Rattle.process_top.specs.Commands.{AnswersTo, IsDueTo, words_refusal}
+use Rattle.process_top.specs.Values.{ListsAreOfValues}
 use Rattle.process_top.proofs.Answered.{result_is_answered}
 use Rattle.process_top.proofs.Due.{no_words_due}
 use Rattle.process_top.proofs.Wanting.{audit_wanting, history_wanting, replay_wanting}
@@ -63,10 +64,10 @@ abbrev pub written : {S K R : Type 0} → World S K R → K → Output → World
 written x sink out =
     record { source = x.source; sink = sink; rack = x.rack; input = x.input; output = out; files = x.files; boxes = x.boxes; gates = x.gates }
 
-pub unread_is_answered : {S K R : Type 0} (o : Option Command) (x : World S K R) (sink : K) (out : Output) (number : ℕ) (refusal : Option Refusal) (at : Status) (why : WordsError) (r : Refusal) → r ≡ words_refusal why
+pub unread_is_answered : {S K R : Type 0} (law : ListsAreOfValues) (o : Option Command) (x : World S K R) (sink : K) (out : Output) (number : ℕ) (refusal : Option Refusal) (at : Status) (why : WordsError) (r : Refusal) → r ≡ words_refusal why
     → refusal ≡ Some r → (why ≡ BadWords → o ≡ None) → number ≡ number_of at → AreUntouched x.files x.files → AreBoxes (λ b. b.kind) x.boxes → IsRefusalTold r x.output out at → x.output.faults ≤ out.faults
     → AnswersTo o x (written x sink out) number refusal
-unread_is_answered o x sink out number refusal at why r is refuses bad numbered untouched are told later =
-    result_is_answered o x (written x sink out) number refusal at numbered (record { tells = refl; later = omega arith }) are (λ none. refl) (record { answers = refl; count = refl; others = refl }) (λ none. refl) (λ none. refl)
+unread_is_answered law o x sink out number refusal at why r is refuses bad numbered untouched are told later =
+    result_is_answered law o x (written x sink out) number refusal at numbered (record { tells = refl; later = omega arith }) are (λ none. refl) (record { answers = refl; count = refl; others = refl }) (λ none. refl) (λ none. refl)
     (λ none. refl) (Err (words_refusal why)) (due_of o _ x.input x.input x.files x.files why bad refl untouched) (subst (λ q. IsRefusalTold q x.output out at) is told) (refuses ∙ ap Some is) later
     (worked_of o x.input x.input x.files x.files x.output x.output why bad) (λ early. refl) tt (λ asks. tt) (λ asks. tt)

@@ -35,7 +35,9 @@ use Rattle.process_top.specs.Verify.{IsVerifyDue, IsVerifyComplete}
 use Rattle.process_top.specs.Audit.{IsAuditDue, IsAuditComplete, IsHistoryAuditDue, IsHistoryAuditComplete}
 use Rattle.process_top.specs.Gen.{IsGenDue, IsGenComplete}
 use Rattle.process_top.specs.Bulk.{IsBulkDue, IsBulkComplete}
+use Rattle.process_top.specs.EarlyStatuses.{is_early_for}
 use Rattle.process_top.specs.Help.{IsHelpDue, IsVersionDue, IsHelpComplete}
+use Rattle.process_top.specs.Values.{TellsValues}
 
 -- what may be due to a command, which may ask the first gate, and `run` the first of them; to words that ask for none, that they
 -- are bad, or that memory was wanting for them
@@ -180,6 +182,9 @@ pub record AnswersTo {S K R : Type 0} (command : Option Command) (before after :
   -- a replay that did its work leaves in each the values that the history of file 0 leaves
   pub replayed : command ≡ Some Replay → status ≡ Done
       → HaveValuesOfFile (λ (b : BoxState). b.values) before.files after.files after.boxes
+  -- what is said of values: under a catalog that names each conflict in value, the books show what the printed list makes of empty
+  -- ones, one process after another, in an order of real time
+  pub listed : TellsValues command before.files after.files reply
   -- only the first gates may be asked, as many as the command may ask, and a command that asks none leaves all as they are
   pub gates : AreOthersAsBefore (needs command).gates before.gates after.gates
   pub unasked : (needs command).gate ≡ false → after.gates ≡ before.gates
@@ -189,6 +194,8 @@ pub record AnswersTo {S K R : Type 0} (command : Option Command) (before after :
   pub unread : (needs command).input ≡ false → after.source ≡ before.source
   -- what is said before the rack is called leaves it as it is, whatever it tells
   pub early : is_early command reply ≡ true → after.rack ≡ before.rack
+  -- and so it is at a status that the command has only of what is said then
+  pub early_status : is_early_for command status ≡ true → after.rack ≡ before.rack
 
 -- On these words, this was answered.
 abbrev pub Answers : {S K R : Type 0} → List (List ℕ) → World S K R → World S K R → ℕ → Option Refusal → Type 0

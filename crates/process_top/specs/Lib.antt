@@ -15,5 +15,7 @@ pub mod Printed
 pub mod Gen
 pub mod Help
 pub mod Bulk
+pub mod Values
+pub mod EarlyStatuses
 pub mod Commands
 pub mod Said

@@ -1,5 +1,5 @@
 -- What a command has to say.
-use Rattle.std.specs.Prelude.{◌≡◌, ℕ, List, true, false, Option, Some, None, Result, Ok, Err, ⊤}
+use Rattle.std.specs.Prelude.{◌≡◌, true, false, Option, Some, None, Result, Ok, Err, ⊤}
 use Rattle.process_flow.specs.Causes.{Rose}
 use Rattle.command_refusals.specs.declared.status.Status.{Status}
 use Rattle.command_refusals.specs.declared.refusal.Refusal.{Refusal}
@@ -16,14 +16,15 @@ use Rattle.scenario_gen.specs.Generated.{generated as scenario}
 use Rattle.bulk_run.specs.Completeness.{IsBulkComplete}
 use Rattle.serve_run.specs.declared.command.Ending.{Ending}
 use Rattle.serve_run.specs.declared.command.Ending.TheVariants as endings
+use Rattle.serve_run.specs.Dialogue.{Dialogue, IsDialogueTold}
 use Rattle.serve_run.specs.Serve.{IsServeComplete, OnEnding}
 use Rattle.process_top.specs.Audit.{IsAuditComplete, IsHistoryAuditComplete}
-use Rattle.process_top.specs.Replies.{Reply, refused, served, is_refused, status_of, text_of}
+use Rattle.process_top.specs.Replies.{Reply, refused, served, is_said, status_of, text_of}
 use Rattle.process_top.specs.Told.{Output, IsTold, IsRefusalTold}
 
--- a reply of which this holds is said: its text and its status where it is no refusal, and else the refusal
+-- a reply of which this holds is said: its text and its status where it is said at once, or else the refusal
 abbrev pub Says : (Reply → Type 0) → Result Said Refusal → Type 0
-Says IsDue (Ok said) = (reply : Reply) × (is_refused reply ≡ false) × IsDue reply × (said.text.items ≡ text_of reply)
+Says IsDue (Ok said) = (reply : Reply) × (is_said reply ≡ true) × IsDue reply × (said.text.items ≡ text_of reply)
     × (said.status ≡ status_of reply)
 Says IsDue (Err r) = IsDue (refused r)
 
@@ -31,7 +32,7 @@ Says IsDue (Err r) = IsDue (refused r)
 -- was told yet, and the reply is to be.
 abbrev pub EndsBy : (Reply → Type 0) → Output → Output → Ending → Type 0
 EndsBy IsDue out out_after (endings.Told at) =
-    (text : List ℕ) × (status : Status) × IsDue (served text status) × IsTold status text out out_after at
+    (d : Dialogue) × (status : Status) × IsDue (served d status) × IsDialogueTold d status out out_after at
 EndsBy IsDue out out_after (endings.Due found) = Says IsDue found × (out_after ≡ out)
 
 -- what is refused where a call ends so, if something is: of a dialogue that was held nothing is

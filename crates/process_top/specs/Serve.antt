@@ -16,7 +16,7 @@ use Rattle.process_top.specs.Replies.{Reply, ended, refused, served}
 -- what a dialogue printed, to its end; or the verdict line of the first process of the scenario that isn't well-formed; or what is
 -- refused
 abbrev pub IsServeDue : Input → Input → Files → Files → Reply → Type 0
-IsServeDue before after files files_after (served text status) = IsServeTold before after files files_after text status
+IsServeDue before after files files_after (served d status) = IsServeTold before after files files_after d status
 IsServeDue before after files files_after (ended said) = IsNotServed before after files files_after (Ok said)
 IsServeDue before after files files_after (refused r) = IsNotServed before after files files_after (Err r)
 IsServeDue before after files files_after reply = ⊥

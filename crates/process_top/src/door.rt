@@ -19,6 +19,7 @@ ghost use Rattle.process_top.specs.Commands.{Answers, AnswersAtOnce, AnswersTo, 
 use crate::auditing;
 use crate::check::check;
 use crate::generating::{help, scenario, version};
+use crate::laws::printed_lists_keep_values;
 use crate::running::run_by_first;
 use crate::show::show;
 use crate::told::tell_ending;
@@ -219,6 +220,7 @@ fn unread<S: Source, K: Sink, R: Rack + Drop, B: Resource, G: Gate>(
         (world S.Source K.Sink R.Rack B.Resource G.Gate source.new sink.new result.rack result.resources.items result.gates.items)
         result.status result.refused }
 {
+    printed_lists_keep_values();
     let _ = source;
     let served = Served {
         parts: Parts { rack, resources },
@@ -245,6 +247,7 @@ fn answer_to<S: Source, K: Sink, R: Rack + Drop, B: Resource, G: Gate>(
         (world S.Source K.Sink R.Rack B.Resource G.Gate source.new sink.new result.rack result.resources.items result.gates.items)
         result.status result.refused }
 {
+    printed_lists_keep_values();
     let mut gates = gates;
     let parts = Parts { rack, resources };
     let served = done(alloc, command, source, sink, parts, &mut gates);
@@ -312,6 +315,7 @@ fn answer_run<
         (world S.Source K.Sink R.Rack B.Resource G.Gate source.new sink.new result.rack result.resources.items result.gates.items)
         result.status result.refused }
 {
+    printed_lists_keep_values();
     let parts = Parts { rack, resources };
     let RunEnd {
         parts,

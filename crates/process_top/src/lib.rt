@@ -10,9 +10,11 @@ mod auditing;
 mod check;
 mod door;
 mod generating;
+mod laws;
 mod running;
 mod show;
 mod told;
 mod verify;
 
 pub use door::{Finished, answer, only_reads, top};
+pub use laws::printed_lists_keep_values;

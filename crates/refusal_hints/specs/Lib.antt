@@ -1,5 +1,10 @@
 pub mod Places
 pub mod Words
+pub mod Lines
+pub mod Found
+pub mod Near
+pub mod Tables
+pub mod Parts
 pub mod Pointing
 pub mod Remedies
 pub mod Hints

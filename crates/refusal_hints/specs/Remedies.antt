@@ -1,5 +1,5 @@
 -- What to do about each refusal: which text is whose.
-use Rattle.std.specs.Prelude.{ℕ, List, codes, if◌then◌else◌}
+use Rattle.std.specs.Prelude.{ℕ, List, [], nat_eq, codes, if◌then◌else◌}
 use Rattle.std.specs.Str.{bytes_eq}
 use Rattle.text_words.specs.declared.expected.Expected.{Expected}
 use Rattle.text_words.specs.declared.expected.Expected.TheVariants as expected
@@ -17,6 +17,10 @@ use Rattle.command_refusals.specs.declared.faults.ReportFault.{ReportFault}
 use Rattle.command_refusals.specs.declared.faults.ReportFault.TheVariants as report
 use Rattle.command_refusals.specs.declared.refusal.Refusal.{Refusal}
 use Rattle.command_refusals.specs.declared.refusal.Refusal.TheVariants as refusal
+use Rattle.refusal_hints.specs.declared.about.About.{About}
+use Rattle.refusal_hints.specs.declared.about.About.TheVariants as abouts
+use Rattle.refusal_hints.specs.declared.remedies.TheConstants.{ILL_FORMED, WRITE_FAULT, BROKEN_OFF, STUCK, NOT_REDUCED, STARVED}
+use Rattle.refusal_hints.specs.declared.remedies.TheConstants.{TRIES, UNDO, REFUSE, UNENDED, UNDONE, UNCHOSEN}
 use Rattle.refusal_hints.specs.declared.remedies.TheConstants.{WORDS, PROCESS, NAME, STEP, OPERATION, KEY, AMOUNT}
 use Rattle.refusal_hints.specs.declared.remedies.TheConstants.{NUMBER, NEXT, CLOSE, OR, SAME_NAME, PROCESSES, STEPS}
 use Rattle.refusal_hints.specs.declared.remedies.TheConstants.{NESTING, ALTERNATIVES, BAD_TOML, VERSION, CONFLICTS}
@@ -47,12 +51,34 @@ what_remedy what.Steps = STEPS.now
 what_remedy what.Nesting = NESTING.now
 what_remedy what.Alternatives = ALTERNATIVES.now
 
+-- the word that stands at the place, if that is what there is to say
+abbrev pub found_in : About → List ℕ
+found_in (abouts.Found word) = word
+found_in other = []
+
+-- about a word that stands behind a step, where another was expected
+abbrev pub next_remedy : List ℕ → List ℕ
+next_remedy word = if bytes_eq word (codes "tries") then TRIES.now
+    else (if bytes_eq word (codes "undo") then UNDO.now
+    else (if bytes_eq word (codes "undorefuse") then UNDO.now
+    else (if bytes_eq word (codes "refuse") then REFUSE.now
+    else (if bytes_eq word (codes "process") then UNENDED.now
+    else (if bytes_eq word (codes "end") then UNDONE.now
+    else (if bytes_eq word (codes "or") then UNCHOSEN.now
+    else (if bytes_eq word (codes "done") then UNCHOSEN.now
+    else NEXT.now)))))))
+
+-- about a word that doesn't fit, by what was expected and what stands there
+abbrev pub word_remedy : About → Expected → List ℕ
+word_remedy about expected.Next = next_remedy (found_in about)
+word_remedy about e = expected_remedy e
+
 -- about a text of processes
-abbrev pub error_remedy : TextError → List ℕ
-error_remedy (error.BadText line column e) = expected_remedy e
-error_remedy (error.Limit w n) = what_remedy w
-error_remedy (error.SameName line name) = SAME_NAME.now
-error_remedy error.NoMemory = MEMORY.now
+abbrev pub error_remedy : About → TextError → List ℕ
+error_remedy about (error.BadText line column e) = word_remedy about e
+error_remedy about (error.Limit w n) = what_remedy w
+error_remedy about (error.SameName line name) = SAME_NAME.now
+error_remedy about error.NoMemory = MEMORY.now
 
 -- about a key of a scenario
 abbrev pub key_remedy : List ℕ → List ℕ
@@ -95,20 +121,34 @@ report_remedy (report.StepRefused k) = STEP_REFUSED.now
 report_remedy (report.NotSerial n) = NOT_SERIAL.now
 report_remedy (report.SerialDiffers n) = SERIAL_DIFFERS.now
 
--- about each refusal
-abbrev pub remedy : Refusal → List ℕ
-remedy refusal.BadWords = WORDS.now
-remedy (refusal.Text e) = error_remedy e
-remedy (refusal.Scenario fault) = scenario_remedy fault
-remedy (refusal.CatalogDiffers n) = CATALOG.now
-remedy (refusal.Commuting a b) = COMMUTING.now
-remedy (refusal.BadLine n) = LINE.now
-remedy (refusal.Limit quantity n) = limit_remedy quantity
-remedy (refusal.Unfinished i) = UNFINISHED.now
-remedy (refusal.File fault) = file_remedy fault
-remedy (refusal.BookDiffers q n) = BOOK.now
-remedy (refusal.Report fault) = report_remedy fault
-remedy refusal.ReadFault = READ_FAULT.now
-remedy refusal.DiskFault = DISK_FAULT.now
-remedy (refusal.Exhausted i step) = EXHAUSTED.now
-remedy refusal.NoMemory = MEMORY.now
+-- about each refusal, by what stands at its place
+abbrev pub remedy : About → Refusal → List ℕ
+remedy about refusal.BadWords = WORDS.now
+remedy about (refusal.Text e) = error_remedy about e
+remedy about (refusal.Scenario fault) = scenario_remedy fault
+remedy about (refusal.CatalogDiffers n) = CATALOG.now
+remedy about (refusal.Commuting a b) = COMMUTING.now
+remedy about (refusal.BadLine n) = LINE.now
+remedy about (refusal.Limit quantity n) = limit_remedy quantity
+remedy about (refusal.Unfinished i) = UNFINISHED.now
+remedy about (refusal.File fault) = file_remedy fault
+remedy about (refusal.BookDiffers q n) = BOOK.now
+remedy about (refusal.Report fault) = report_remedy fault
+remedy about refusal.ReadFault = READ_FAULT.now
+remedy about refusal.DiskFault = DISK_FAULT.now
+remedy about (refusal.Exhausted i step) = EXHAUSTED.now
+remedy about refusal.NoMemory = MEMORY.now
+
+-- what stands on standard error behind an answer that is no refusal, by the number of its status
+abbrev pub ending_hint : ℕ → List ℕ
+ending_hint number = if nat_eq number 3 then ILL_FORMED.now
+    else (if nat_eq number 9 then WRITE_FAULT.now
+    else (if nat_eq number 10 then BROKEN_OFF.now
+    else (if nat_eq number 11 then STUCK.now
+    else (if nat_eq number 12 then NOT_REDUCED.now
+    else (if nat_eq number 13 then STARVED.now
+    else [])))))
+
+-- and where memory was wanting for what there is to say
+abbrev pub starved_hint : List ℕ
+starved_hint = STARVED.now

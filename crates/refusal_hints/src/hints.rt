@@ -1,16 +1,15 @@
 // The hint beside a refusal.
-ghost use Rattle.std.specs.Prelude.{◌≡◌, ◌++◌, IfOk, IfSome, OnOk, None, codes};
-ghost use Rattle.refusal_hints.specs.Hints.{IsHint, beginning, hint_text, number_text};
-ghost use Rattle.refusal_hints.specs.Pointing.{IsErrorPlace, IsFirstAlone, IsPointed, IsTextPlace};
+ghost use Rattle.std.specs.Prelude.{◌≡◌, ◌++◌, IfOk, OnOk, codes};
+ghost use Rattle.refusal_hints.specs.Hints.{IsHint, beginning, front_of, back_of, hint_text, number_text};
+ghost use Rattle.refusal_hints.specs.Pointing.{nowhere};
 ghost use Rattle.refusal_hints.specs.Remedies.{remedy, scenario_remedy};
 
-use crate::documents::{InputForm, place_of_bad_toml, place_of_processes};
+use crate::about::{About, Point, add_back, add_front, add_number, error_remedy};
+use crate::documents::InputForm;
 use crate::keys::key_remedy;
-use crate::places::{moved, place_of};
+use crate::pointing::point;
 use crate::remedies;
-use crate::words::first_alone;
-use command_refusals::{Refusal, ScenarioFault, ShownWord};
-use process_text::TextError;
+use command_refusals::{Refusal, ScenarioFault};
 use std::alloc::{AllocError, Global};
 use text_words::Position;
 
@@ -29,13 +28,13 @@ fn scenario_remedy(alloc: Global, fault: &ScenarioFault) -> Result<&'static str,
     }
 }
 
-// What to do about a refusal.
-fn remedy(alloc: Global, refusal: &Refusal) -> Result<&'static str, AllocError>
-    ensures { IfOk result (λ text. text.now ≡ remedy refusal.now) }
+// What to do about a refusal, by what stands at its place.
+fn remedy(alloc: Global, about: &About, refusal: &Refusal) -> Result<&'static str, AllocError>
+    ensures { IfOk result (λ text. text.now ≡ remedy about.now refusal.now) }
 {
     match refusal {
         Refusal::BadWords => Ok(remedies::WORDS),
-        Refusal::Text(error) => Ok(remedies::error_remedy(error)),
+        Refusal::Text(error) => error_remedy(alloc, about, error),
         Refusal::Scenario(fault) => scenario_remedy(alloc, fault),
         Refusal::CatalogDiffers(_) => Ok(remedies::CATALOG),
         Refusal::Commuting(_, _) => Ok(remedies::COMMUTING),
@@ -50,82 +49,6 @@ fn remedy(alloc: Global, refusal: &Refusal) -> Result<&'static str, AllocError>
         Refusal::Exhausted(_, _) => Ok(remedies::EXHAUSTED),
         Refusal::NoMemory => Ok(remedies::MEMORY),
     }
-}
-
-// A line and a column of the text of processes, as a place of the input.
-fn text_place(
-    alloc: Global,
-    form: InputForm,
-    input: &[u8],
-    line: u32,
-    column: u32,
-) -> Result<Option<Position>, AllocError>
-    ensures { IfOk result (λ found. IfSome found (IsTextPlace form input.now line column)) }
-{
-    match form {
-        InputForm::Processes => Ok(Some(Position {
-            line: line as usize,
-            column: column as usize,
-        })),
-        InputForm::Scenario => match place_of_processes(alloc, input)? {
-            Some(base) => Ok(Some(moved(base, line, column))),
-            None => Ok(None),
-        },
-    }
-}
-
-// The place of what is wrong with a text of processes.
-fn error_place(
-    alloc: Global,
-    form: InputForm,
-    input: &[u8],
-    error: &TextError,
-) -> Result<Option<Position>, AllocError>
-    ensures { IfOk result (λ found. IfSome found (IsErrorPlace form input.now error.now)) }
-{
-    match error {
-        TextError::BadText(line, column, _) => text_place(alloc, form, input, *line, *column),
-        TextError::SameName(line, _) => text_place(alloc, form, input, *line, 1),
-        TextError::Limit(_, _) | TextError::NoMemory => Ok(None),
-    }
-}
-
-// Where a name stands alone first.
-fn name_place(alloc: Global, input: &[u8], name: &ShownWord) -> Result<Option<Position>, AllocError>
-    ensures { IfOk result (λ found. IfSome found (IsFirstAlone input.now name.now)) }
-{
-    let name = format!(in alloc; "{name}")?;
-    match first_alone(input, name.as_bytes()) {
-        Some(n) => Ok(Some(place_of(input, n))),
-        None => Ok(None),
-    }
-}
-
-// The place in the input of what is refused, where one is known.
-fn place(
-    alloc: Global,
-    form: InputForm,
-    input: &[u8],
-    refusal: &Refusal,
-) -> Result<Option<Position>, AllocError>
-    ensures { IfOk result (IsPointed form input.now refusal.now) }
-{
-    match refusal {
-        Refusal::Text(error) => error_place(alloc, form, input, error),
-        Refusal::Scenario(ScenarioFault::BadToml) => Ok(place_of_bad_toml(input, alloc)),
-        Refusal::Scenario(ScenarioFault::UnknownOperation(name)) => {
-            name_place(alloc, input, name)
-        }
-        _ => Ok(None),
-    }
-}
-
-// Adds words and a number.
-fn add_number(alloc: Global, words: &str, n: usize, out: &mut Vec<u8>) -> Result<(), AllocError>
-    ensures { OnOk result (out.new.items ≡ out.old.items ++ number_text words.now n) }
-{
-    let text = format!(in alloc; "{words}{n}")?;
-    out.extend_from_slice(text.as_bytes())
 }
 
 // The beginning of a hint.
@@ -144,12 +67,29 @@ fn beginning(alloc: Global, at: Option<Position>) -> Result<Vec<u8>, AllocError>
     Ok(out)
 }
 
-// Ends a line with this text.
-fn ended(out: Vec<u8>, text: &str) -> Result<Vec<u8>, AllocError>
-    ensures { IfOk result (λ line. line.items ≡ out.items ++ text.now ++ codes "\n") }
+// Adds what stands at the place, what to do, and what may be meant.
+fn add_rest(
+    alloc: Global,
+    about: &About,
+    refusal: &Refusal,
+    out: &mut Vec<u8>,
+) -> Result<(), AllocError>
+    ensures { OnOk result
+        (out.new.items ≡ out.old.items ++ front_of about.now ++ remedy about.now refusal.now ++ back_of about.now) }
 {
-    let mut out = out;
+    let text = remedy(alloc, about, refusal)?;
+    add_front(alloc, about, out)?;
     out.extend_from_slice(text.as_bytes())?;
+    add_back(alloc, about, out)
+}
+
+// The hint of a refusal that points at this.
+fn hint_of(alloc: Global, point: Point, refusal: &Refusal) -> Result<Vec<u8>, AllocError>
+    ensures { IfOk result (λ line. line.items ≡ hint_text point refusal.now) }
+{
+    let Point { at, about } = point;
+    let mut out = beginning(alloc, at)?;
+    add_rest(alloc, &about, refusal, &mut out)?;
     out.extend_from_slice(b"\n")?;
     Ok(out)
 }
@@ -161,20 +101,20 @@ pub fn hint(
     input: &[u8],
     refusal: &Refusal,
 ) -> Result<Vec<u8>, AllocError>
-    // A place that it names is that of what is refused, and the rest is what to do about it.
+    // It points at what is refused, and the rest is what to do about it.
     ensures { IfOk result (λ line. IsHint form input.now refusal.now line.items) }
 {
-    let text = remedy(alloc, refusal)?;
-    let at = place(alloc, form, input, refusal)?;
-    let out = beginning(alloc, at)?;
-    ended(out, text)
+    let point = point(alloc, form, input, refusal)?;
+    hint_of(alloc, point, refusal)
 }
 
 /// The same where the input isn't known: it names no place.
 pub fn placeless_hint(alloc: Global, refusal: &Refusal) -> Result<Vec<u8>, AllocError>
-    ensures { IfOk result (λ line. line.items ≡ hint_text None refusal.now) }
+    ensures { IfOk result (λ line. line.items ≡ hint_text nowhere refusal.now) }
 {
-    let text = remedy(alloc, refusal)?;
-    let out = beginning(alloc, None)?;
-    ended(out, text)
+    let point = Point {
+        at: None,
+        about: About::Nothing,
+    };
+    hint_of(alloc, point, refusal)
 }

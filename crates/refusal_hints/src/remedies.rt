@@ -1,9 +1,9 @@
 // What to do about each refusal: the texts of hints.
 ghost use Rattle.std.specs.Prelude.{◌≡◌};
-ghost use Rattle.refusal_hints.specs.Remedies.{error_remedy, expected_remedy, file_remedy, limit_remedy, report_remedy, what_remedy};
+ghost use Rattle.refusal_hints.specs.Remedies.{ending_hint, expected_remedy, file_remedy, limit_remedy, report_remedy, starved_hint, what_remedy};
 
 use command_refusals::{FileFault, Quantity, ReportFault};
-use process_text::{Expected, TextError, What};
+use process_text::{Expected, What};
 
 pub(crate) const WORDS: &str =
     "'tps help' lists the commands, and 'tps help COMMAND' tells how one is called";
@@ -28,7 +28,24 @@ pub(crate) const NUMBER: &str =
     "behind 'tries' and 'undo' stands a number from 1 to 64, behind 'refuse' and 'undorefuse' one from 0 to 99";
 
 pub(crate) const NEXT: &str =
-    "here may stand an option that this kind of step has and that comes later than those before it, the next step, 'choose', or the word that closes the block";
+    "behind a step stand its options, the next step, 'choose', or the word that closes the block: 'end' of a process, 'or' or 'done' of an alternative";
+
+pub(crate) const TRIES: &str =
+    "steps of kind r and cr alone have 'tries', and it stands in front of their other options";
+
+pub(crate) const UNDO: &str =
+    "steps of kind c and cr alone have 'undo' and 'undorefuse'; options stand in the order tries, undo, refuse, undorefuse, each once";
+
+pub(crate) const REFUSE: &str =
+    "options stand in the order tries, undo, refuse, undorefuse, each once";
+
+pub(crate) const UNENDED: &str =
+    "the process in front of it isn't closed yet; write 'end' behind its last step, and 'done' in front of that for each choice still open";
+
+pub(crate) const UNDONE: &str = "a choice is still open; write 'done' behind its last alternative";
+
+pub(crate) const UNCHOSEN: &str =
+    "no choice is open here, so a step, 'choose' or 'end' may stand; a choice begins with 'choose'";
 
 pub(crate) const CLOSE: &str =
     "behind 'done' stands the word that closes the block around the choice: 'end', 'or' or 'done'";
@@ -133,6 +150,44 @@ pub(crate) const EXHAUSTED: &str =
 
 pub(crate) const MEMORY: &str = "memory ran out; call again with more of it free";
 
+const ILL_FORMED: &str =
+    "hint: refusals can leave this process with no way on, or never lead to this alternative; give it another way on behind its commit points\n";
+
+const WRITE_FAULT: &str = "hint: standard output could not be written to its end\n";
+
+const BROKEN_OFF: &str =
+    "hint: a call of the system on tps.0 to tps.8 failed, or another program works in this folder; look at the disk and the permissions, and then 'tps restart'\n";
+
+const STUCK: &str =
+    "hint: the last line names the process that is stuck, and its step, which was refused as often as it may be tried; 'tps restart' gives it its tries anew\n";
+
+const NOT_REDUCED: &str =
+    "hint: from this event on it could not have been completed as good as one process after another; look which conflict the scheduler of this log doesn't heed\n";
+
+const STARVED: &str = "hint: memory ran out; call again with more of it free\n";
+
+/// What stands on standard error behind an answer that is no refusal, by the number of the status.
+pub fn ending_hint(status: u8) -> &'static str
+    ensures { result.now ≡ ending_hint status }
+{
+    match status {
+        3 => ILL_FORMED,
+        9 => WRITE_FAULT,
+        10 => BROKEN_OFF,
+        11 => STUCK,
+        12 => NOT_REDUCED,
+        13 => STARVED,
+        _ => "",
+    }
+}
+
+/// What stands there where memory was wanting for what there is to say.
+pub fn starved_hint() -> &'static str
+    ensures { result.now ≡ starved_hint }
+{
+    STARVED
+}
+
 /// What stands where something was expected.
 pub(crate) fn expected_remedy(expected: Expected) -> &'static str
     ensures { result.now ≡ expected_remedy expected }
@@ -151,8 +206,8 @@ pub(crate) fn expected_remedy(expected: Expected) -> &'static str
     }
 }
 
-// About a limit of a text of processes.
-fn what_remedy(what: What) -> &'static str
+/// About a limit of a text of processes.
+pub(crate) fn what_remedy(what: What) -> &'static str
     ensures { result.now ≡ what_remedy what }
 {
     match what {
@@ -160,18 +215,6 @@ fn what_remedy(what: What) -> &'static str
         What::Steps => STEPS,
         What::Nesting => NESTING,
         What::Alternatives => ALTERNATIVES,
-    }
-}
-
-/// About a text of processes.
-pub(crate) fn error_remedy(error: &TextError) -> &'static str
-    ensures { result.now ≡ error_remedy error.now }
-{
-    match error {
-        TextError::BadText(_, _, expected) => expected_remedy(*expected),
-        TextError::Limit(what, _) => what_remedy(*what),
-        TextError::SameName(_, _) => SAME_NAME,
-        TextError::NoMemory => MEMORY,
     }
 }
 

@@ -1,6 +1,7 @@
 // A name where it stands alone.
 ghost use Rattle.std.specs.Prelude.{◌≡◌, ◌<◌, ◌≤◌, ℕ, true, false, length, IfSome, IfNone};
 ghost use Rattle.process_tree.specs.Name.{is_name_byte};
+ghost use Rattle.refusal_hints.specs.Pointing.{IsFirstAlone};
 ghost use Rattle.refusal_hints.specs.Words.{is_name_byte_at, stands_alone};
 
 // A byte that names have.
@@ -10,8 +11,8 @@ fn is_name_byte(byte: u8) -> bool
     byte.is_ascii_lowercase() || byte.is_ascii_digit() || byte == b'_'
 }
 
-// There is a byte at this place, and names have it.
-fn is_name_byte_at(text: &[u8], n: usize) -> bool
+/// There is a byte at this place, and names have it.
+pub(crate) fn is_name_byte_at(text: &[u8], n: usize) -> bool
     ensures { result ≡ is_name_byte_at text.now n }
 {
     match text.get(n) {
@@ -32,8 +33,7 @@ fn stands_alone(text: &[u8], name: &[u8], n: usize) -> bool
 
 /// Where the name stands alone first.
 pub(crate) fn first_alone(text: &[u8], name: &[u8]) -> Option<usize>
-    ensures found { IfSome result (λ n. (n ≤ length text.now) × (stands_alone text.now name.now n ≡ true)
-        × ((k : ℕ) → k < n → stands_alone text.now name.now k ≡ false)) }
+    ensures { IsFirstAlone text.now name.now result }
 {
     for n in 0..text.len() {
         if stands_alone(text, name, n) {

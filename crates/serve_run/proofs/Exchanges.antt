@@ -1,5 +1,5 @@
 -- What lines with their answers come to, one after another.
-use Rattle.std.proofs.Common.{◌≡◌, ◌∙◌, ℕ, List, [], ◌∷◌, ◌++◌, Some, refl, ap, sym, subst, append-nil, append_assoc}
+use Rattle.std.proofs.Common.{◌≡◌, ◌≤◌, ◌∙◌, ℕ, List, [], ◌∷◌, ◌++◌, Some, refl, ap, sym, subst, append-nil, append_assoc, arith}
 use Rattle.std.specs.Io.KnownBytes.{Appends, Consumes}
 use Rattle.std.proofs.KnownBytes.{Appends-nil, Appends-trans, Consumes-nil, Consumes-trans}
 use Rattle.process_flow.specs.declared.source.Source.{Ghosts as Sources}
@@ -8,13 +8,8 @@ use Rattle.process_disk.specs.declared.rack.Rack.{Ghosts as Racks}
 use Rattle.process_disk.specs.Disk.{IsHonest, Told}
 use Rattle.process_tree.specs.declared.plan.Plan.{Plan}
 use Rattle.trace_verify.specs.Lines.{cut}
-use Rattle.engine_steps.specs.Engines.{EngineState}
-use Rattle.engine_calls.specs.Runs.{GoesOn}
-use Rattle.engine_calls.proofs.Goes.{goes_none, goes_then}
 use Rattle.line_reader.proofs.Cuts.{cut-whole}
-use Rattle.driver_answers.proofs.MoreStarts.{goes_wider}
-use Rattle.serve_run.specs.Dialogue.{AreAnswered, AreExchanged, DialogueState, Exchange, IsBetween, IsExchange, bytes_of, driver_state, number_behind, printed_of}
-use Rattle.serve_run.proofs.Starts.{among_amid, among_more}
+use Rattle.serve_run.specs.Dialogue.{AreAnswered, AreExchanged, DialogueState, Exchange, IsExchange, bytes_of, driver_state, next_number, number_behind, printed_of}
 
 -- a line stands in front of the lines behind it
 line_behind : (ready given line rest more bytes left : List ℕ) → cut 10 (ready ++ given) ≡ Some (line, rest) → rest ++ more ≡ bytes ++ left → ready ++ (given ++ more) ≡ ((line ++ 10 ∷ []) ++ bytes) ++ left
@@ -36,10 +31,10 @@ module _ {S K R B : Type 0} (s : Sources S) (k : Sinks K) (r : Racks R) (honest 
   pub are_answered : (a b : DialogueState S K R B) (xs : List Exchange) → AreExchanged s k r plans a xs b → AreAnswered a.engine.catalog plans (driver_state a) a.number xs (driver_state b)
   are_answered a b [] is = ap driver_state is
   are_answered a b (x ∷ xs) (m, one, more) = (
-    driver_state m,
     one.answered,
-    subst (λ n. AreAnswered a.engine.catalog plans (driver_state m) n xs (driver_state b)) one.next
-        (subst (λ c. AreAnswered c plans (driver_state m) m.number xs (driver_state b)) one.goes.catalog (are_answered m b xs more)),
+    subst (λ t. AreAnswered a.engine.catalog plans t (next_number a.number) xs (driver_state b)) (sym one.state)
+        (subst (λ n. AreAnswered a.engine.catalog plans (driver_state m) n xs (driver_state b)) one.next
+        (subst (λ c. AreAnswered c plans (driver_state m) m.number xs (driver_state b)) one.goes.catalog (are_answered m b xs more))),
   )
 
   -- their numbers go up
@@ -76,25 +71,10 @@ module _ {S K R B : Type 0} (s : Sources S) (k : Sinks K) (r : Racks R) (honest 
   no_write_fault a b [] is = ap (λ (d : DialogueState S K R B). k.faults d.sink) (sym is)
   no_write_fault a b (x ∷ xs) (m, one, more) = no_write_fault m b xs more ∙ one.no_write_fault
 
-  -- the engine is between two lines again
-  pub between : (a b : DialogueState S K R B) (xs : List Exchange) → IsBetween r a.engine → AreExchanged s k r plans a xs b → IsBetween r b.engine
-  between a b [] at is = subst (λ (d : DialogueState S K R B). IsBetween r d.engine) is at
-  between a b (x ∷ xs) at (m, one, more) = between m b xs one.between more
-
-  -- two engines that went on, one behind the other
-  pub both_go : (e f g : EngineState R B) (one two : List Plan) → IsBetween r f → GoesOn r (plans ++ one) e f → GoesOn r (plans ++ two) f g → GoesOn r (plans ++ (one ++ two)) e g
-  both_go e f g one two at first second =
-      goes_then r (plans ++ (one ++ two)) e f g at.settled at.machine.session.one_each (honest g.files.rack)
-      (goes_wider r e f (plans ++ one) (plans ++ (one ++ two)) (among_more plans one two) first)
-      (goes_wider r f g (plans ++ two) (plans ++ (one ++ two)) (among_amid plans one two) second)
-
-  -- it went on
-  pub goes_on : (a b : DialogueState S K R B) (xs : List Exchange) → IsBetween r a.engine → AreExchanged s k r plans a xs b → (spelled : List Plan) × GoesOn r (plans ++ spelled) a.engine b.engine
-  goes_on a b [] at is =
-      ([], subst (λ (d : DialogueState S K R B). GoesOn r (plans ++ []) a.engine d.engine) is (goes_none r (plans ++ []) a.engine at.machine at.each))
-  goes_on a b (x ∷ xs) at (m, one, more) =
-      let rest = goes_on m b xs one.between more in
-      (one.spelled ++ rest.0, both_go a.engine m.engine b.engine one.spelled rest.0 one.between one.goes rest.1)
+  -- the rack's count of faults didn't fall
+  pub no_fewer_faults : (a b : DialogueState S K R B) (xs : List Exchange) → AreExchanged s k r plans a xs b → r.faults a.engine.files.rack ≤ r.faults b.engine.files.rack
+  no_fewer_faults a b [] is = subst (λ (d : DialogueState S K R B). r.faults a.engine.files.rack ≤ r.faults d.engine.files.rack) is (omega arith)
+  no_fewer_faults a b (x ∷ xs) (m, one, more) = let first = one.goes.later in let rest = no_fewer_faults m b xs more in omega (arith, first, rest)
 
   -- one line more comes behind
   pub one_more : (a b d : DialogueState S K R B) (xs : List Exchange) (x : Exchange) → AreExchanged s k r plans a xs b → IsExchange s k r plans x b d → AreExchanged s k r plans a (xs ++ x ∷ []) d

@@ -1,5 +1,5 @@
-pub mod Starts
 pub mod Exchanges
+pub mod Tied
 pub mod Spoken
 pub mod Turns
 pub mod NotRead

@@ -1,6 +1,5 @@
 -- Whatever is due, a dialogue ends well where the source has a scenario, the files are sound and nothing failed.
 use Rattle.std.proofs.Common.{◌≡◌, ◌⊎◌, ◌<◌, ◌∙◌, ℕ, List, length, Option, IfSome, Result, Ok, Err, inl, inr, refl, ap, subst, arith}
-use Rattle.std.specs.Prelude.{⊤}
 use Rattle.std.specs.declared.alloc.Global.{Global}
 use Rattle.process_flow.specs.Causes.{Rose}
 use Rattle.process_disk.specs.Disk.{Told as IsKnown}
@@ -30,9 +29,9 @@ use Rattle.session_text.specs.Sessions.{scenario_of}
 use Rattle.driver_input.specs.Preamble.{HasNoScenario, IsScenarioTaken}
 use Rattle.serve_run.specs.declared.command.Ending.{Ending}
 use Rattle.serve_run.specs.declared.command.Ending.TheVariants.{Told, Due}
-use Rattle.serve_run.specs.Dialogue.{EndsWith, number_behind}
+use Rattle.serve_run.specs.Dialogue.{Dialogue, EndsWith, IsDialogueTold, number_behind}
 use Rattle.serve_run.proofs.ServeParts.{not_served_in_parts, IsNotRead, IsReadAndNotServed}
-use Rattle.serve_run.specs.Serve.{HasScene, IsEndedWell, IsNoServeRead, IsNotServed, IsNotServedOn, IsServeDue, IsServeRead, IsServeTold, IsSpoken, OnEnding}
+use Rattle.serve_run.specs.Serve.{HasScene, IsEndedWell, IsNoServeRead, IsNotServed, IsNotServedOn, IsServeDue, IsServeRead, IsServeTold, IsSpoken}
 
 module _ (alloc : Global) (before after : Input) (files files_after : Files) (out out_after : Output) (bytes : List ℕ) (c : Catalog) (plans : List Plan) (h : History) (has : HasScene before bytes c plans)
     (known : IsKnown files.disk) (sound : IsSound c h files.disk.files) (quiet : NothingFailed before after files files_after) (quiet_out : ¬ Rose out.faults out_after.faults) (opened : SoundFilesAreOpened) where
@@ -111,20 +110,18 @@ module _ (alloc : Global) (before after : Input) (files files_after : Files) (ou
   by_status statuses.Exhausted ended last n u tail now d ps is ends disk read write = absurd ends
   by_status statuses.NotReduced ended last n u tail now d ps is ends disk read write = absurd ends
 
-  unwritten : (ended : Status) → (ended ≡ statuses.WriteFault → Rose out.faults out_after.faults) → ended ≡ statuses.WriteFault → ⊥
-  unwritten ended written is = quiet_out (written is)
-
-  held_well : (ended s : Status) (text : List ℕ) → (ended ≡ statuses.WriteFault → Rose out.faults out_after.faults) → IsServeTold before after files files_after text s → IsTold s text out out_after ended → IsEndedWell (Told ended)
-  held_well ended s text written (d, ps, first, taken, read, served) (inr failed) = absurd (quiet_out failed.1)
-  held_well ended s text written (d, ps, first, taken, read, served) (inl told) = by_spoken served.spoken
+  held_well : (ended s : Status) (d : Dialogue) → IsServeTold before after files files_after d s → IsDialogueTold d s out out_after ended → IsEndedWell (Told ended)
+  held_well ended s d (e, ps, first, taken, read, served) told = by_told told.told
     where
-      no_write : s ≡ statuses.WriteFault → ⊥
-      no_write is = unwritten ended written (told.0 ∙ is)
+      by_spoken : ended ≡ s → IsSpoken e ps served.history first served.now taken after.left d s → IsEndedWell (Told ended)
+      by_spoken same (inl (front, is)) =
+          by_status s ended is.last (number_behind first d.exchanges) d.unanswered d.tail served.now e ps same is.ends served.disk served.read (λ fault. quiet_out (told.write fault))
+      by_spoken same (inr (none, fault, left)) = absurd (quiet_out (told.write fault))
 
-      by_spoken : IsSpoken d ps served.history first served.now taken after.left served.answers s → IsEndedWell (Told ended)
-      by_spoken (inl is) = by_status s ended is.last (number_behind first is.exchanges) is.unanswered is.tail served.now d ps told.0 is.ends served.disk served.read no_write
-      by_spoken (inr (none, fault, left)) = absurd (no_write fault)
+      by_told : IsTold s d.tail told.mid out_after ended → IsEndedWell (Told ended)
+      by_told (inl (same, all)) = by_spoken same served.spoken
+      by_told (inr failed) = absurd (quiet_out (subst (λ f. Rose f out_after.faults) told.quiet failed.1))
 
-  pub ended_well : (ending : Ending) → IsServeDue before after files files_after out out_after ending → OnEnding (λ ended. ended ≡ statuses.WriteFault → Rose out.faults out_after.faults) (λ found. ⊤) ending → IsEndedWell ending
-  ended_well (Told ended) (text, s, told_so, told) written = held_well ended s text written told_so told
-  ended_well (Due found) (why, unsaid) written = wanting found why
+  pub ended_well : (ending : Ending) → IsServeDue before after files files_after out out_after ending → IsEndedWell ending
+  ended_well (Told ended) (d, s, told_so, told) = held_well ended s d told_so told
+  ended_well (Due found) (why, unsaid) = wanting found why

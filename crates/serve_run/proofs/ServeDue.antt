@@ -1,16 +1,15 @@
 -- What a dialogue over files comes to is due.
-use Rattle.std.proofs.Common.{◌≡◌, ◌≤◌, ℕ, List, ◌++◌, ◌∙◌, Result, Err, inl, inr, refl, ap, sym, subst}
-use Rattle.std.specs.Prelude.{⊤}
-use Rattle.process_flow.specs.Causes.{Rose}
+use Rattle.std.proofs.Common.{◌≡◌, ◌≤◌, ℕ, List, ◌++◌, Result, Err, inl, inr, ⊎_elim, refl, ap, sym, subst, arith}
 use Rattle.process_flow.specs.declared.source.Source.{Ghosts as Sources}
 use Rattle.process_flow.specs.declared.sink.Sink.{Ghosts as Sinks}
 use Rattle.process_disk.specs.declared.rack.Rack.{Ghosts as Racks}
 use Rattle.process_disk.specs.Disk.{IsHonest, Told as IsKnown}
 use Rattle.process_disk.specs.Images.{EachImage}
+use Rattle.process_disk.proofs.Images.{still_told}
 use Rattle.process_tree.specs.declared.plan.Plan.{Plan}
 use Rattle.schedule_model.specs.declared.history.History.{History}
 use Rattle.commute_table.specs.declared.catalog.Catalog.{Catalog}
-use Rattle.process_core.specs.Cores.{IsCore}
+use Rattle.process_core.specs.Cores.{IsCore, history_of}
 use Rattle.history_files.specs.Sound.{IsSound}
 use Rattle.engine_steps.specs.Engines.{EngineState, full_history}
 use Rattle.engine_steps.specs.declared.engines.Phase.{Phase}
@@ -21,17 +20,17 @@ use Rattle.engine_calls.proofs.Opened.{are_kept}
 use Rattle.command_refusals.specs.declared.refusal.Refusal.{Refusal}
 use Rattle.command_refusals.specs.declared.refusal.Refusal.TheVariants.{NoMemory}
 use Rattle.command_refusals.specs.declared.status.Status.{Status}
-use Rattle.command_refusals.specs.declared.status.Status.TheVariants.{WriteFault}
 use Rattle.command_input.specs.declared.said.Said.{Said}
 use Rattle.command_input.specs.FilesLeft.{files}
 use Rattle.command_input.specs.Inputs.{input}
-use Rattle.command_input.specs.Outputs.{output, IsTold}
+use Rattle.command_input.specs.Outputs.{output}
 use Rattle.scenario_run.specs.Opening.{AreOpenedOn}
 use Rattle.scenario_run.proofs.OnlyOpened.{only_opened}
 use Rattle.history_opening.proofs.Rising.{rose_later}
-use Rattle.driver_requests.specs.Readiness.{ready_text}
 use Rattle.serve_run.specs.declared.command.Ending.{Ending}
 use Rattle.serve_run.specs.declared.command.Ending.TheVariants.{Told, Due}
+use Rattle.serve_run.specs.Dialogue.{AreTied}
+use Rattle.serve_run.proofs.Tied.{all_tied_before}
 use Rattle.serve_run.specs.Serve.{IsHeld, IsHeldOn, IsNotBegun, IsNotServedOn, IsServed, OnEnding}
 
 module _ {S K R B : Type 0} (s : Sources S) (k : Sinks K) (r : Racks R) (honest : (rack : R) → IsKnown (r.disk rack) → IsHonest (r.disk rack)) (plans : List Plan) (first : ℕ) (ready : List ℕ) (source source' : S) (sink sink' : K)
@@ -48,27 +47,42 @@ module _ {S K R B : Type 0} (s : Sources S) (k : Sinks K) (r : Racks R) (honest 
 
   module _ (ended : Status) (is : IsHeld s k r plans first ready source source' sink sink' opening now ended) where
     abbrev KeptOn : Phase → Type 0
-    KeptOn on = AreKept c h now.core (IsOneAhead c (plans ++ is.spelled) now.core on) on (r.disk entry) (r.disk now.files.rack)
+    KeptOn on = AreKept c h now.core (IsOneAhead c is.asked now.core on) on (r.disk entry) (r.disk now.files.rack)
 
     kept : KeptOn now.phase
-    kept = are_kept (plans ++ is.spelled) r honest entry opening now begun.session.one_each tells opened.sound opened.becomes opened.each is.goes read each
+    kept = are_kept is.asked r honest entry opening now begun.session.one_each tells opened.sound opened.becomes opened.each is.goes read each
 
-    served : IsServed c plans first (ready ++ is.given) (input s source) (input s source') (files r entry) (files r now.files.rack) (ready_text h ++ is.text) is.status
+    -- the answers are tied to the files as they were before the opening
+    tied : IsKnown (r.disk entry) → AreTied c (history_of opening.core) (r.disk entry) (r.disk now.files.rack) (r.disk entry).moment is.dialogue.exchanges
+    tied told =
+        let told_opened = still_told (r.disk entry) (r.disk opening.files.rack) tells told in
+        let becomes = opened.becomes told in
+        let follow = is.goes.follow told_opened in
+        let begun_by : (r.disk entry).moment ≤ (r.disk opening.files.rack).moment = let one = becomes.begun in let two = becomes.by_now in omega (arith, one, two) in
+        all_tied_before c h (r.disk entry) (r.disk opening.files.rack) (r.disk now.files.rack) begun_by
+        (λ files left. ⊎_elim
+        (λ first. ⊎_elim (λ may. inl may) (λ sound. inr (inl (becomes.each.has files sound))) (becomes.before files first))
+        (λ later. inr (inr later))
+        (follow.nothing_else (r.disk entry).moment files begun_by left))
+        (λ files may. (opened.each told).has files ((honest opening.files.rack told_opened).now files may))
+        is.dialogue.exchanges (r.disk entry).moment (r.disk opening.files.rack).moment begun_by begun_by (is.tied told_opened)
+
+    served : IsServed c plans first (ready ++ is.given) (input s source) (input s source') (files r entry) (files r now.files.rack) is.dialogue is.status
     served = record {
       history = h;
       now = now.core;
       machine = machine;
-      answers = is.text;
       spoken = is.spoken;
-      printed = refl;
-      spelled = is.spelled;
+      asked = is.asked;
+      by_line = is.by_line;
       kept = subst KeptOn is.phase kept;
+      tied = tied;
       disk = λ fault. rose_later (r.faults entry) (r.faults opening.files.rack) (r.faults now.files.rack) later (is.disk fault);
       read = is.read;
     }
 
     told : IsHeldOn c plans first ready (input s source) (input s source') (files r entry) (files r now.files.rack) (output k sink) (output k sink') (Told ended)
-    told = (is.given, ready_text h ++ is.text, is.status, is.consumed, served, is.told)
+    told = (is.given, is.dialogue, is.status, is.consumed, served, is.told)
 
   not_begun : now ≡ opening → IsNotBegun c (files r entry) (files r now.files.rack) NoMemory
   not_begun left = (
@@ -97,13 +111,3 @@ module _ {S K R B : Type 0} (s : Sources S) (k : Sinks K) (r : Racks R) (honest 
   held_on d rack ending catalog back is =
       subst (λ x. IsHeldOn d plans first ready (input s source) (input s source') (files r entry) (files r x) (output k sink) (output k sink') ending) (sym back)
       (subst (λ x. IsHeldOn x plans first ready (input s source) (input s source') (files r entry) (files r now.files.rack) (output k sink) (output k sink') ending) catalog (by_ending ending is))
-
--- what a dialogue was told of has its cause
-pub written : {S K R B : Type 0} (s : Sources S) (k : Sinks K) (r : Racks R) (plans : List Plan) (first : ℕ) (ready : List ℕ) (source source' : S) (sink sink' : K) (opening now : EngineState R B) (ending : Ending) (P : Result Said Refusal → Type 0)
-    → OnEnding (IsHeld s k r plans first ready source source' sink sink' opening now) P ending → OnEnding (λ ended. ended ≡ WriteFault → Rose (k.faults sink) (k.faults sink')) (λ found. ⊤) ending
-written s k r plans first ready source source' sink sink' opening now (Told ended) P is = λ fault. by_told fault is.told
-  where
-    by_told : ended ≡ WriteFault → IsTold is.status (ready_text (full_history opening.core) ++ is.text) (output k sink) (output k sink') ended → Rose (k.faults sink) (k.faults sink')
-    by_told fault (inl told) = is.write (sym told.0 ∙ fault)
-    by_told fault (inr failed) = failed.1
-written s k r plans first ready source source' sink sink' opening now (Due found) P is = tt

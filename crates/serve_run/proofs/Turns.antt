@@ -5,6 +5,7 @@ use Rattle.process_flow.specs.Causes.{Rose}
 use Rattle.process_flow.specs.declared.source.Source.{Ghosts as Sources}
 use Rattle.process_flow.specs.declared.sink.Sink.{Ghosts as Sinks}
 use Rattle.process_disk.specs.declared.rack.Rack.{Ghosts as Racks}
+use Rattle.process_tree.specs.Order.{Each}
 use Rattle.process_tree.specs.declared.plan.Plan.{Plan}
 use Rattle.process_text.specs.Canonical.{line_of}
 use Rattle.trace_verify.specs.Lines.{cut}
@@ -22,9 +23,10 @@ use Rattle.session_play.specs.declared.cut.Cut.{Cut}
 use Rattle.session_play.specs.declared.cut.Cut.TheVariants as cuts
 use Rattle.driver_requests.specs.Requests.{request_of}
 use Rattle.driver_answers.specs.Serving.{DriverState, IsLineAnswered, IsLineCut, LeadsTo}
+use Rattle.driver_answers.proofs.MoreStarts.{goes_settled}
 use Rattle.serve_run.specs.declared.faults.Fault.{Fault}
 use Rattle.serve_run.specs.declared.faults.Fault.TheVariants as faults
-use Rattle.serve_run.specs.Dialogue.{DialogueState, Exchange, IsAnswered, IsBetween, IsCutAmid, IsCutShort, IsExchange, IsOver, IsStop, driver_state, fault_line, fault_of, most_line, next_number, state_at, status_of}
+use Rattle.serve_run.specs.Dialogue.{DialogueState, Exchange, IsAnswered, IsAskedBy, IsBetween, IsCutAmid, IsCutShort, IsExchange, IsOver, IsStop, driver_state, fault_line, fault_of, most_line, next_number, state_at, status_of}
 
 -- statuses that aren't the same
 memory_isnt_read : NoMemory ≢ ReadFault
@@ -93,22 +95,23 @@ module _ {S K R B : Type 0} (s : Sources S) (k : Sinks K) (r : Racks R) (plans :
   b m = state_at source' rest sink' e' ps' m
 
   -- a line was taken and answered, and its answer was given
-  pub exchanged : (result : Option Status) (line : List ℕ) → cut 10 (ready ++ given) ≡ Some (line, rest) → s.faults source' ≡ s.faults source → (spelled : List Plan) → GoesOn r (plans ++ spelled) e e'
+  pub exchanged : (result : Option Status) (line : List ℕ) → cut 10 (ready ++ given) ≡ Some (line, rest) → s.faults source' ≡ s.faults source → IfNone result (GoesOn r [] e e')
       → IfNone result (IsBetween r e')
       → IfNone result ((text : List ℕ) × IsAnswered e.catalog plans (driver_state a) n line (driver_state (b n)) text × Appends (k.taken sink) (k.taken sink') text × (k.faults sink' ≡ k.faults sink))
       → IfNone result ((x : Exchange) × IsExchange s k r plans x a (b (next_number n)))
-  exchanged (Some status) line is quiet spelled goes at on = tt
-  exchanged None line is quiet spelled goes at (text, answered, told, whole) = (
-    record { line = line; answer = text },
+  exchanged (Some status) line is quiet goes at on = tt
+  exchanged None line is quiet goes at (text, answered, told, whole) = (
+    record { line = line; answer = text; state = driver_state (b n); moment = (r.disk e'.files.rack).moment },
     record {
       given = given;
       consumed = consumed;
       line = is;
       answered = answered;
-      spelled = spelled;
+      state = refl;
       goes = goes;
       between = at;
       told = told;
+      moment = refl;
       no_read_fault = quiet;
       no_write_fault = whole;
       next = refl;
@@ -132,14 +135,15 @@ module _ {S K R B : Type 0} (s : Sources S) (k : Sinks K) (r : Racks R) (plans :
     line = (rest, front);
     cut = is.cut;
     stops = λ done. absurd (is.not_stopped done);
-    read = λ unread. absurd (is.not_unread unread);
+    unread = λ failed. absurd (is.not_unread failed);
+    read = λ failed. absurd (is.not_unread failed);
     later = later;
   }
 
 -- An engine that nothing was asked of.
 module _ {S K R B : Type 0} (s : Sources S) (k : Sinks K) (r : Racks R) (plans : List Plan) (source source' : S) (ready rest : List ℕ) (sink sink' : K) (e : EngineState R B) (ps : Hand) (n : ℕ) (at : IsBetween r e) where
-  own : GoesOn r (plans ++ []) e e
-  own = goes_none r (plans ++ []) e at.machine at.each
+  own : GoesOn r [] e e
+  own = goes_none r [] e at.machine at.each
 
   -- the dialogue ended by a fault, or by want of memory
   abbrev faulty : {unanswered : Option (List ℕ)} (fault : Fault) (ended : Status) → (fault ≢ faults.DiskFault) → IsTold (status_of fault) (fault_line fault) (output k sink) (output k sink') ended
@@ -149,7 +153,8 @@ module _ {S K R B : Type 0} (s : Sources S) (k : Sinks K) (r : Racks R) (plans :
     status = ReadFault;
     ends = (refl, refl);
     told = told;
-    spelled = [];
+    asked = [];
+    by_line = tt;
     goes = own;
     phase = at.settled;
     disk = λ is. absurd (read_isnt_disk is);
@@ -161,7 +166,8 @@ module _ {S K R B : Type 0} (s : Sources S) (k : Sinks K) (r : Racks R) (plans :
     status = NoMemory;
     ends = (refl, inl refl);
     told = told;
-    spelled = [];
+    asked = [];
+    by_line = tt;
     goes = own;
     phase = at.settled;
     disk = λ is. absurd (memory_isnt_disk is);
@@ -169,27 +175,29 @@ module _ {S K R B : Type 0} (s : Sources S) (k : Sinks K) (r : Racks R) (plans :
   }
 
   -- no line was taken, for a fault of the source or for want of memory
-  pub over_by_fault : (fault : Fault) (ended : Status) (given : List ℕ) → Consumes (s.left source) (s.left source') given → s.faults source ≤ s.faults source'
-      → ((fault ≡ faults.ReadFault) × Rose (s.faults source) (s.faults source')) ⊎ (fault ≡ faults.NoMemory) → IsTold (status_of fault) (fault_line fault) (output k sink) (output k sink') ended
+  pub over_by_fault : (fault : Fault) (ended : Status) (given : List ℕ) → Consumes (s.left source) (s.left source') given → (fault ≡ faults.ReadFault → cut 10 (ready ++ given) ≡ None)
+      → s.faults source ≤ s.faults source' → ((fault ≡ faults.ReadFault) × Rose (s.faults source) (s.faults source')) ⊎ (fault ≡ faults.NoMemory) → IsTold (status_of fault) (fault_line fault) (output k sink) (output k sink') ended
       → IsOver s k r plans (state_at source ready sink e ps n) (state_at source' rest sink' e ps n) ended
-  over_by_fault fault ended given consumed later (inl (is, rose)) told = record {
+  over_by_fault fault ended given consumed none later (inl (is, rose)) told = record {
     given = given;
     consumed = consumed;
     unanswered = None;
     line = tt;
     cut = faulty faults.ReadFault ended read_fault_isnt_disk_fault (subst (λ f. IsTold (status_of f) (fault_line f) (output k sink) (output k sink') ended) is told);
     stops = λ done. absurd (read_isnt_done done);
-    read = λ unread. rose;
+    unread = λ failed. none is;
+    read = λ failed. rose;
     later = later;
   }
-  over_by_fault fault ended given consumed later (inr is) told = record {
+  over_by_fault fault ended given consumed none later (inr is) told = record {
     given = given;
     consumed = consumed;
     unanswered = None;
     line = tt;
     cut = faulty faults.NoMemory ended want_isnt_disk_fault (subst (λ f. IsTold (status_of f) (fault_line f) (output k sink) (output k sink') ended) is told);
     stops = λ done. absurd (memory_isnt_done done);
-    read = λ unread. absurd (memory_isnt_read unread);
+    unread = λ failed. absurd (memory_isnt_read failed);
+    read = λ failed. absurd (memory_isnt_read failed);
     later = later;
   }
 
@@ -205,7 +213,8 @@ module _ {S K R B : Type 0} (s : Sources S) (k : Sinks K) (r : Racks R) (plans :
       status = WriteFault;
       ends = (line, refl, record { core = e.core; hand = ps }, inr (long, refl, refl), refl);
       told = told;
-      spelled = [];
+      asked = [];
+      by_line = tt;
       goes = own;
       phase = at.settled;
       disk = λ is. absurd (write_isnt_disk is);
@@ -227,6 +236,10 @@ module _ {S K R B : Type 0} (s : Sources S) (k : Sinks K) (r : Racks R) (plans :
   between_still (Some ended) = tt
   between_still None = at
 
+  pub goes_still : (result : Option Status) → IfNone result (GoesOn r [] e e)
+  goes_still (Some ended) = tt
+  goes_still None = own
+
   -- it ended by `stop`, or with its input
   pub over_by_stop : (given : List ℕ) → Consumes (s.left source) (s.left source') given → s.faults source ≤ s.faults source' → IsStop (ready ++ given) (s.left source')
       → Appends (k.taken sink) (k.taken sink) [] → IsOver s k r plans (state_at source ready sink e ps n) (state_at source' rest sink e ps n) Done
@@ -240,30 +253,38 @@ module _ {S K R B : Type 0} (s : Sources S) (k : Sinks K) (r : Racks R) (plans :
       status = Done;
       ends = (refl, refl);
       told = inl (refl, nothing);
-      spelled = [];
+      asked = [];
+      by_line = tt;
       goes = own;
       phase = at.settled;
       disk = λ is. absurd (done_isnt_disk is);
       write = λ is. absurd (done_isnt_write is);
     };
     stops = λ done. stop;
-    read = λ unread. absurd (done_isnt_read unread);
+    unread = λ failed. absurd (done_isnt_read failed);
+    read = λ failed. absurd (done_isnt_read failed);
     later = later;
   }
 
 -- A line was answered, or the dialogue ended with it.
-module _ {K R B : Type 0} (k : Sinks K) (r : Racks R) (plans : List Plan) (d : DriverState) (n : ℕ) (sink sink' : K) (e e' : EngineState R B) (spelled : List Plan) (goes : GoesOn r (plans ++ spelled) e e') where
+module _ {K R B : Type 0} (k : Sinks K) (r : Racks R) (plans : List Plan) (d : DriverState) (n : ℕ) (sink sink' : K) (e e' : EngineState R B) (asked : List Plan) (goes : GoesOn r asked e e') where
+  -- nothing is under way behind it
+  pub gone_settled : (result : Option Status) → e'.phase ≡ Settled → IfNone result (GoesOn r [] e e')
+  gone_settled (Some ended) settled = tt
+  gone_settled None settled = goes_settled r asked [] e e' settled goes
+
   -- its answer was not given whole
-  pub given_amid : (result : Option Status) (line text : List ℕ) (t : DriverState) → IsAnswered e.catalog plans d n line t text → e'.core ≡ t.core → e'.phase ≡ Settled
+  pub given_amid : (result : Option Status) (line text : List ℕ) (t : DriverState) → Each (IsAskedBy e.catalog plans (Some line)) asked → IsAnswered e.catalog plans d n line t text → e'.core ≡ t.core → e'.phase ≡ Settled
       → IfSome result (λ ended. (ended ≡ WriteFault) × IsTold WriteFault text (output k sink) (output k sink') ended × Rose (k.faults sink) (k.faults sink')) → IfSome result (IsCutAmid k r plans d n line sink sink' e e')
-  given_amid None line text t answered core settled is = tt
-  given_amid (Some ended) line text t answered core settled (same, told, rose) = record {
+  given_amid None line text t by_line answered core settled is = tt
+  given_amid (Some ended) line text t by_line answered core settled (same, told, rose) = record {
     cut = record {
       tail = text;
       status = WriteFault;
       ends = (line, refl, t, answered, core);
       told = told;
-      spelled = spelled;
+      asked = asked;
+      by_line = by_line;
       goes = goes;
       phase = settled;
       disk = λ is. absurd (write_isnt_disk is);
@@ -278,15 +299,16 @@ module _ {K R B : Type 0} (k : Sinks K) (r : Racks R) (plans : List Plan) (d : D
   some_line line core (inr leads) = inr (line, refl, leads)
 
   -- it was not answered
-  pub cut_amid : (cut : Cut) (ended : Status) (line : List ℕ) → IsLineCut e.catalog plans d line cut e'.core → IsTold (status_of (fault_of cut)) (fault_line (fault_of cut)) (output k sink) (output k sink') ended
+  pub cut_amid : (cut : Cut) (ended : Status) (line : List ℕ) → Each (IsAskedBy e.catalog plans (Some line)) asked → IsLineCut e.catalog plans d line cut e'.core → IsTold (status_of (fault_of cut)) (fault_line (fault_of cut)) (output k sink) (output k sink') ended
       → (cut ≡ cuts.DiskFault → (e'.phase ≡ Closed) × Rose (r.faults e.files.rack) (r.faults e'.files.rack)) → (cut ≢ cuts.DiskFault → e'.phase ≡ Settled) → IsCutAmid k r plans d n line sink sink' e e' ended
-  cut_amid cuts.DiskFault ended line is told closed settled = record {
+  cut_amid cuts.DiskFault ended line by_line is told closed settled = record {
     cut = record {
       tail = fault_line faults.DiskFault;
       status = DiskFault;
       ends = (refl, is);
       told = told;
-      spelled = spelled;
+      asked = asked;
+      by_line = by_line;
       goes = goes;
       phase = (closed refl).0;
       disk = λ same. (closed refl).1;
@@ -295,13 +317,14 @@ module _ {K R B : Type 0} (k : Sinks K) (r : Racks R) (plans : List Plan) (d : D
     not_stopped = disk_isnt_done;
     not_unread = disk_isnt_read;
   }
-  cut_amid cuts.NoMemory ended line is told closed settled = record {
+  cut_amid cuts.NoMemory ended line by_line is told closed settled = record {
     cut = record {
       tail = fault_line faults.NoMemory;
       status = NoMemory;
       ends = (refl, some_line line e'.core is);
       told = told;
-      spelled = spelled;
+      asked = asked;
+      by_line = by_line;
       goes = goes;
       phase = settled want_isnt_disk_cut;
       disk = λ same. absurd (memory_isnt_disk same);

@@ -6,13 +6,16 @@ use Rattle.process_flow.specs.Causes.{Rose}
 use Rattle.process_flow.specs.declared.source.Source.{Ghosts as Sources}
 use Rattle.process_flow.specs.declared.sink.Sink.{Ghosts as Sinks}
 use Rattle.process_disk.specs.declared.rack.Rack.{Ghosts as Racks}
-use Rattle.process_disk.specs.Disk.{Told}
+use Rattle.process_disk.specs.Disk.{Disk, FileSet, Told}
 use Rattle.process_disk.specs.Images.{EachImage}
+use Rattle.process_tree.specs.Order.{Each}
 use Rattle.process_tree.specs.declared.plan.Plan.{Plan}
 use Rattle.process_text.specs.Canonical.{line_of}
+use Rattle.schedule_model.specs.declared.event.Event.{Event}
+use Rattle.schedule_model.specs.declared.history.History.{History}
 use Rattle.trace_verify.specs.Lines.{cut}
 use Rattle.commute_table.specs.declared.catalog.Catalog.{Catalog}
-use Rattle.process_core.specs.Cores.{CoreState, IsCore}
+use Rattle.process_core.specs.Cores.{CoreState, IsCore, history_of}
 use Rattle.history_files.specs.Sound.{IsSound}
 use Rattle.engine_steps.specs.Engines.{EngineState, full_history}
 use Rattle.engine_steps.specs.declared.engines.Phase.{Phase}
@@ -22,12 +25,12 @@ use Rattle.session_play.specs.AtHand.{Hand}
 use Rattle.command_refusals.specs.declared.refusal.Refusal.TheVariants as refusals
 use Rattle.command_refusals.specs.declared.status.Status.{Status}
 use Rattle.command_refusals.specs.declared.status.Status.TheVariants.{Done, DiskFault, NoMemory, ReadFault, WriteFault}
-use Rattle.command_input.specs.Outputs.{output, refusal_line, IsTold}
+use Rattle.command_input.specs.Outputs.{Output, output, refusal_line, IsTold}
 use Rattle.session_play.specs.declared.cut.Cut.{Cut}
 use Rattle.session_play.specs.declared.cut.Cut.TheVariants as cuts
 use Rattle.driver_requests.specs.Answers.{bad_line_words}
 use Rattle.driver_requests.specs.Requests.{request_of}
-use Rattle.driver_answers.specs.Serving.{DriverState, IsLineAnswered, LeadsTo}
+use Rattle.driver_answers.specs.Serving.{AsksToStart, DriverState, IsLineAnswered, LeadsTo}
 use Rattle.serve_run.specs.declared.faults.Fault.{Fault}
 use Rattle.serve_run.specs.declared.faults.Fault.TheVariants as faults
 use Rattle.serve_run.specs.declared.taking.Next.{Next}
@@ -62,10 +65,12 @@ most_line = 65536
 abbrev pub next_number : ℕ → ℕ
 next_number n = min (n + 1) (2 ^ 64 - 1)
 
--- A line and its answer.
+-- A line and its answer, the state that the line led to, and the moment of the files at which the answer was whole at the sink.
 pub record Exchange : Type 0 where
   pub line : List ℕ
   pub answer : List ℕ
+  pub state : DriverState
+  pub moment : ℕ
 
 -- what a line is answered; one that is too long has no form
 abbrev pub IsAnswered : Catalog → List Plan → DriverState → ℕ → List ℕ → DriverState → List ℕ → Type 0
@@ -76,8 +81,7 @@ IsAnswered c plans s n line t text =
 -- lines of which the first has the number n lead from one state to another, each with its answer
 abbrev pub AreAnswered : Catalog → List Plan → DriverState → ℕ → List Exchange → DriverState → Type 0
 AreAnswered c plans s n [] t = s ≡ t
-AreAnswered c plans s n (x ∷ xs) t =
-    (m : DriverState) × IsAnswered c plans s n x.line m x.answer × AreAnswered c plans m (next_number n) xs t
+AreAnswered c plans s n (x ∷ xs) t = IsAnswered c plans s n x.line x.state x.answer × AreAnswered c plans x.state (next_number n) xs t
 
 -- A dialogue between two lines: its source with the bytes that came and no line took, its sink, its engine with the pieces at hand,
 -- and the number of the next line.
@@ -114,14 +118,15 @@ pub record IsExchange {S K R B : Type 0} (s : Sources S) (k : Sinks K) (r : Rack
   pub consumed : Consumes (s.left a.source) (s.left b.source) given
   pub line : cut 10 (a.ready ++ given) ≡ Some (x.line, b.ready)
   -- it led to this, and this is its answer
-  pub answered : IsAnswered a.engine.catalog plans (driver_state a) a.number x.line (driver_state b) x.answer
-  -- no start was under way but of a plan of the scenario, or of these
-  pub spelled : List Plan
-  pub goes : GoesOn r (plans ++ spelled) a.engine b.engine
+  pub answered : IsAnswered a.engine.catalog plans (driver_state a) a.number x.line x.state x.answer
+  pub state : x.state ≡ driver_state b
+  -- the engine went on, and nothing is under way behind it
+  pub goes : GoesOn r [] a.engine b.engine
   -- what it led to is in the files, and in whatever a crash leaves from now on
   pub between : IsBetween r b.engine
-  -- and its answer was given, whole
+  -- and its answer was given, whole, by this moment of the files
   pub told : Appends (k.taken a.sink) (k.taken b.sink) x.answer
+  pub moment : x.moment ≡ (r.disk b.engine.files.rack).moment
   -- no call failed
   pub no_read_fault : s.faults b.source ≡ s.faults a.source
   pub no_write_fault : k.faults b.sink ≡ k.faults a.sink
@@ -139,6 +144,27 @@ AreExchanged {S} {K} {R} {B} s k r plans a (x ∷ xs) b =
 abbrev pub printed_of : List Exchange → List ℕ
 printed_of xs = flat_map (λ x. x.answer) xs
 
+-- What a dialogue prints: the first lines, if they were taken whole; the answers, each whole before the next line is taken; and what
+-- comes last of all. A line may have been taken last whose answer was not given whole.
+pub record Dialogue : Type 0 where
+  pub front : List ℕ
+  pub exchanges : List Exchange
+  pub unanswered : Option (List ℕ)
+  pub tail : List ℕ
+
+-- what of it went out whole
+abbrev pub given_whole : Dialogue → List ℕ
+given_whole d = d.front ++ printed_of d.exchanges
+
+-- A dialogue was told: the first lines and all answers went out whole, and no call of the sink failed meanwhile; and then what comes
+-- last was told. It ends at the status of a write fault only where the sink's count of faults rose.
+pub record IsDialogueTold (d : Dialogue) (status : Status) (before after : Output) (ended : Status) : Type 0 where
+  pub mid : Output
+  pub whole : Appends before.taken mid.taken (given_whole d)
+  pub quiet : mid.faults ≡ before.faults
+  pub told : IsTold status d.tail mid after ended
+  pub write : status ≡ WriteFault → Rose before.faults after.faults
+
 -- the bytes of lines, each with its line feed
 abbrev pub bytes_of : List Exchange → List ℕ
 bytes_of xs = flat_map (λ x. x.line ++ 10 ∷ []) xs
@@ -153,6 +179,11 @@ abbrev pub IsInFront : Option (List ℕ) → List ℕ → Type 0
 IsInFront None bytes = ⊤
 IsInFront (Some line) bytes = (behind : List ℕ) × (cut 10 bytes ≡ Some (line, behind))
 
+-- the plan of a process that this line asks to start, if there is one
+abbrev pub IsAskedBy : Catalog → List Plan → Option (List ℕ) → Plan → Type 0
+IsAskedBy c plans None p = ⊥
+IsAskedBy c plans (Some line) p = AsksToStart c plans line (request_of line) p
+
 -- How a dialogue ends behind the lines that were answered, with what is printed last: by `stop`, or with its input; by a fault, or
 -- for want of memory, which has a line; or the answer to line n, which was taken last, was not given whole. What the machine kept
 -- is what the answered lines make; or, where memory was wanting to print that answer or it was not given whole, that line too.
@@ -166,6 +197,10 @@ EndsWith c plans last n unanswered tail now NoMemory =
 EndsWith c plans last n unanswered tail now WriteFault =
     (line : List ℕ) × (unanswered ≡ Some line) × (t : DriverState) × IsAnswered c plans last n line t tail × (now ≡ t.core)
 EndsWith c plans last n unanswered tail now status = ⊥
+
+-- no line feed stands among these bytes
+abbrev pub HasNoLine : List ℕ → Type 0
+HasNoLine bytes = cut 10 bytes ≡ None
 
 -- the line that comes next is `stop`, or no line comes
 abbrev pub IsStop : List ℕ → Option (List ℕ) → Type 0
@@ -190,9 +225,10 @@ pub record IsCutShort {K R B : Type 0} (k : Sinks K) (r : Racks R) (plans : List
   pub status : Status
   pub ends : EndsWith engine.catalog plans s n unanswered tail engine_after.core status
   pub told : IsTold status tail (output k sink) (output k sink_after) ended
-  -- no start was under way but of a plan of the scenario, or of these
-  pub spelled : List Plan
-  pub goes : GoesOn r (plans ++ spelled) engine engine_after
+  -- no start was under way but of the plan that the line asks for
+  pub asked : List Plan
+  pub by_line : Each (IsAskedBy engine.catalog plans unanswered) asked
+  pub goes : GoesOn r asked engine engine_after
   pub phase : engine_after.phase ≡ phase_by status
   -- each fault has its cause
   pub disk : status ≡ DiskFault → Rose (r.faults engine.files.rack) (r.faults engine_after.files.rack)
@@ -215,6 +251,8 @@ pub record IsOver {S K R B : Type 0} (s : Sources S) (k : Sinks K) (r : Racks R)
   pub line : IsInFront unanswered (a.ready ++ given)
   pub cut : IsCutShort k r plans (driver_state a) a.number unanswered a.sink b.sink a.engine b.engine ended
   pub stops : cut.status ≡ Done → IsStop (a.ready ++ given) (s.left b.source)
+  -- the source was called only where no line stood ready
+  pub unread : cut.status ≡ ReadFault → HasNoLine (a.ready ++ given)
   pub read : cut.status ≡ ReadFault → Rose (s.faults a.source) (s.faults b.source)
   pub later : s.faults a.source ≤ s.faults b.source
 
@@ -226,19 +264,42 @@ pub record IsDialogue {S K R B : Type 0} (s : Sources S) (k : Sinks K) (r : Rack
   pub exchanged : AreExchanged s k r plans a exchanges last
   pub over : IsOver s k r plans last b ended
 
--- What a dialogue prints, at which status, that began in this state with line n: these lines were answered, and so it ended.
+-- How a dialogue went that began in this state with line n, and at which status it ended: these lines were answered, one after
+-- another, and behind the answers this is printed. A line may have been taken whose answer was not given whole.
 pub record HasConversed (c : Catalog) (plans : List Plan) (first : DriverState) (n : ℕ) (now : CoreState) (taken : List ℕ)
-    (left : Option (List ℕ)) (text : List ℕ) (status : Status) : Type 0 where
-  pub exchanges : List Exchange
+    (left : Option (List ℕ)) (exchanges : List Exchange) (unanswered : Option (List ℕ)) (tail : List ℕ) (status : Status) : Type 0 where
   pub last : DriverState
   pub answered : AreAnswered c plans first n exchanges last
   -- the lines stand in front of what was taken of the input
   pub rest : List ℕ
   pub lines : taken ≡ bytes_of exchanges ++ rest
   pub stops : status ≡ Done → IsStop rest left
-  pub tail : List ℕ
-  pub printed : text ≡ printed_of exchanges ++ tail
+  -- a line that stood ready was answered before the source was called
+  pub unread : status ≡ ReadFault → HasNoLine rest
   -- a line that was taken and whose answer was not given is the next one
-  pub unanswered : Option (List ℕ)
   pub line : IsInFront unanswered rest
   pub ends : EndsWith c plans last (number_behind n exchanges) unanswered tail now status
+
+-- What a crash may leave, and the answers.
+
+-- these files are sound for a history that has no more than these events, or no less
+abbrev pub HasAtMost : Catalog → List Event → FileSet → Type 0
+HasAtMost c events files = (h : History) × IsSound c h files × ((rest : List Event) × (events ≡ h.events ++ rest))
+
+abbrev pub HasAtLeast : Catalog → List Event → FileSet → Type 0
+HasAtLeast c events files = (h : History) × IsSound c h files × ((rest : List Event) × (h.events ≡ events ++ rest))
+
+-- An answer was whole at its moment, which is no earlier than this one: until then an image has no more than what the machine had
+-- come to, or was left before; and from then on each has all of that.
+pub record IsTied (c : Catalog) (there : List Event) (old new : Disk) (since : ℕ) (x : Exchange) : Type 0 where
+  pub later : since ≤ x.moment
+  pub by_now : x.moment ≤ new.moment
+  pub goes : (more : List Event) × (history_of x.state.core ≡ there ++ more)
+  pub until : (files : FileSet) → new.left_since old.moment files
+      → old.may_leave files ⊎ new.left_since x.moment files ⊎ HasAtMost c (history_of x.state.core) files
+  pub kept : EachImage new x.moment (HasAtLeast c (history_of x.state.core))
+
+-- so it is of each answer in turn, on files that had these events at first
+abbrev pub AreTied : Catalog → List Event → Disk → Disk → ℕ → List Exchange → Type 0
+AreTied c there old new since [] = ⊤
+AreTied c there old new since (x ∷ xs) = IsTied c there old new since x × AreTied c there old new x.moment xs

@@ -1,17 +1,18 @@
 -- The command `serve`: the lines of a driver, over files that are opened for a scenario.
-use Rattle.std.specs.Prelude.{◌≡◌, ◌⊎◌, ◌≤◌, ℕ, List, [], ◌++◌, length, Option, Some, Result, Ok, Err, ⊤}
+use Rattle.std.specs.Prelude.{◌≡◌, ◌⊎◌, ◌≤◌, ℕ, List, [], ◌++◌, length, Option, Some, None, Result, Ok, Err, ⊤}
 use Rattle.std.specs.Io.KnownBytes.{Consumes}
 use Rattle.process_flow.specs.Causes.{Rose}
 use Rattle.process_flow.specs.declared.source.Source.{Ghosts as Sources}
 use Rattle.process_flow.specs.declared.sink.Sink.{Ghosts as Sinks}
 use Rattle.process_disk.specs.declared.rack.Rack.{Ghosts as Racks}
 use Rattle.process_disk.specs.Disk.{Told as IsKnown}
+use Rattle.process_tree.specs.Order.{Each}
 use Rattle.process_tree.specs.declared.plan.Plan.{Plan}
 use Rattle.schedule_model.specs.declared.history.History.{History}
 use Rattle.commute_table.specs.declared.catalog.Catalog.{Catalog}
 use Rattle.machine_model.specs.Calls.{complete_all}
 use Rattle.process_core.specs.Answers.{after_call}
-use Rattle.process_core.specs.Cores.{CoreState, IsCore, opened_on}
+use Rattle.process_core.specs.Cores.{CoreState, IsCore, history_of, opened_on}
 use Rattle.history_files.specs.Sound.{IsSound}
 use Rattle.engine_steps.specs.Engines.{EngineState, full_history}
 use Rattle.engine_calls.specs.Acknowledged.{IsOneAhead}
@@ -27,7 +28,7 @@ use Rattle.command_input.specs.declared.scenario.NoPlans.{NoPlans}
 use Rattle.command_refusals.specs.Order.{Test, Tests, test_then, IsFirstRefusal, followed_by}
 use Rattle.command_input.specs.FilesLeft.{Files, before_files}
 use Rattle.command_input.specs.Inputs.{Input, most_input}
-use Rattle.command_input.specs.Outputs.{Output, output, IsTold}
+use Rattle.command_input.specs.Outputs.{Output, output}
 use Rattle.command_input.specs.Scenarios.{all_refusing, refusing, scenario_tests, IsBound}
 use Rattle.scenario_run.specs.Completeness.{NothingFailed}
 use Rattle.scenario_run.specs.Opening.{opening_tests, IsNotOpenedWith}
@@ -38,7 +39,7 @@ use Rattle.driver_input.specs.Preamble.{HasNoScenario, IsScenarioTaken}
 use Rattle.session_text.specs.Sessions.{scenario_of}
 use Rattle.serve_run.specs.declared.command.Ending.{Ending}
 use Rattle.serve_run.specs.declared.command.Ending.TheVariants.{Told, Due}
-use Rattle.serve_run.specs.Dialogue.{HasConversed, phase_by}
+use Rattle.serve_run.specs.Dialogue.{AreTied, Dialogue, HasConversed, IsAskedBy, IsDialogueTold, phase_by}
 
 -- A scenario with this catalog, whose processes have these plans, was taken from the front of the input, and then these bytes, of
 -- which the first line has this number.
@@ -72,35 +73,39 @@ IsNoServeRead before after none = IsFirstRefusal (read_tests before after) none
 abbrev pub begun_on : Catalog → History → DriverState
 begun_on c h = record { core = after_call (opened_on c.conflicts h.plans h.events) complete_all; hand = none_at_hand }
 
+-- nothing came of a dialogue but a part of its first lines
+abbrev pub unspoken : History → Dialogue
+unspoken h = record { front = []; exchanges = []; unanswered = None; tail = ready_text h }
+
 -- the answers that are printed behind the first lines, and what they made of the machine; where the first lines were not taken
--- whole there is none
-abbrev pub IsSpoken : Catalog → List Plan → History → ℕ → CoreState → List ℕ → Option (List ℕ) → List ℕ → Status → Type 0
-IsSpoken c plans h first now taken left text status =
-    HasConversed c plans (begun_on c h) first now taken left text status
-    ⊎ ((text ≡ []) × (status ≡ WriteFault) × (now ≡ (begun_on c h).core))
+-- whole there is none, and no line was taken
+abbrev pub IsSpoken : Catalog → List Plan → History → ℕ → CoreState → List ℕ → Option (List ℕ) → Dialogue → Status → Type 0
+IsSpoken c plans h first now taken left d status =
+    ((d.front ≡ ready_text h) × HasConversed c plans (begun_on c h) first now taken left d.exchanges d.unanswered d.tail status)
+    ⊎ ((d ≡ unspoken h) × (status ≡ WriteFault) × (now ≡ (begun_on c h).core))
 
 -- The machine opened on the history of the files, whoever was active began to complete, and it went on by the lines. What it kept
--- is kept in the files, and in what a crash leaves; each fault has its cause.
+-- is kept in the files, and in what a crash leaves; each answer has its moment, and each fault its cause.
 pub record IsServed (c : Catalog) (plans : List Plan) (first : ℕ) (taken : List ℕ) (before after : Input)
-    (files files_after : Files) (text : List ℕ) (status : Status) : Type 0 where
+    (files files_after : Files) (d : Dialogue) (status : Status) : Type 0 where
   pub history : History
   pub now : CoreState
   pub machine : IsCore now
-  pub answers : List ℕ
-  pub spoken : IsSpoken c plans history first now taken after.left answers status
-  pub printed : text ≡ ready_text history ++ answers
-  -- no start was under way but of a plan of the scenario, or of these
-  pub spelled : List Plan
-  pub kept : AreKept c history now (IsOneAhead c (plans ++ spelled) now (phase_by status))
-      (phase_by status) files.disk files_after.disk
+  pub spoken : IsSpoken c plans history first now taken after.left d status
+  -- no start was under way but of the plan that the line asks for whose answer was not given
+  pub asked : List Plan
+  pub by_line : Each (IsAskedBy c plans d.unanswered) asked
+  pub kept : AreKept c history now (IsOneAhead c asked now (phase_by status)) (phase_by status) files.disk files_after.disk
+  -- for each answer there is a moment at which it was whole, from which on every image has what the machine had come to
+  pub tied : IsKnown files.disk → AreTied c history.events files.disk files_after.disk files.disk.moment d.exchanges
   pub disk : status ≡ DiskFault → Rose files.faults files_after.faults
   pub read : status ≡ ReadFault → Rose before.faults after.faults
 
 -- a dialogue was held
-abbrev pub IsServeTold : Input → Input → Files → Files → List ℕ → Status → Type 0
-IsServeTold before after files files_after text status =
+abbrev pub IsServeTold : Input → Input → Files → Files → Dialogue → Status → Type 0
+IsServeTold before after files files_after d status =
     (c : Catalog) × (plans : List Plan) × (first : ℕ) × (taken : List ℕ) × IsServeRead before after c plans first taken
-    × IsServed c plans first taken before after files files_after text status
+    × IsServed c plans first taken before after files files_after d status
 
 -- Memory was wanting before the first line: nothing was kept.
 abbrev pub IsNotBegun : Catalog → Files → Files → Refusal → Type 0
@@ -137,17 +142,21 @@ pub record IsHeld {S K R B : Type 0} (s : Sources S) (k : Sinks K) (r : Racks R)
     (source source_after : S) (sink sink_after : K) (engine engine_after : EngineState R B) (ended : Status) : Type 0 where
   pub given : List ℕ
   pub consumed : Consumes (s.left source) (s.left source_after) given
-  pub text : List ℕ
+  pub dialogue : Dialogue
   pub status : Status
   pub spoken : IsSpoken engine.catalog plans (full_history engine.core) first engine_after.core (ready ++ given)
-      (s.left source_after) text status
-  pub told : IsTold status (ready_text (full_history engine.core) ++ text) (output k sink) (output k sink_after) ended
-  pub spelled : List Plan
-  pub goes : GoesOn r (plans ++ spelled) engine engine_after
+      (s.left source_after) dialogue status
+  pub told : IsDialogueTold dialogue status (output k sink) (output k sink_after) ended
+  -- no start was under way but of the plan that the line asks for whose answer was not given
+  pub asked : List Plan
+  pub by_line : Each (IsAskedBy engine.catalog plans dialogue.unanswered) asked
+  pub goes : GoesOn r asked engine engine_after
+  -- each answer was whole at its moment
+  pub tied : IsKnown (r.disk engine.files.rack) → AreTied engine.catalog (history_of engine.core) (r.disk engine.files.rack)
+      (r.disk engine_after.files.rack) (r.disk engine.files.rack).moment dialogue.exchanges
   pub phase : engine_after.phase ≡ phase_by status
   pub disk : status ≡ DiskFault → Rose (r.faults engine.files.rack) (r.faults engine_after.files.rack)
   pub read : status ≡ ReadFault → Rose (s.faults source) (s.faults source_after)
-  pub write : status ≡ WriteFault → Rose (k.faults sink) (k.faults sink_after)
   pub later : s.faults source ≤ s.faults source_after
 
 -- a scenario with this catalog, whose processes have these plans, was taken from a source; these bytes stand ready behind it, of
@@ -159,16 +168,15 @@ IsScene before after c plans ready first =
 -- What a dialogue over files comes to: what it prints, and that this was told; or that it was not held, and what is to be said.
 abbrev pub IsHeldOn : Catalog → List Plan → ℕ → List ℕ → Input → Input → Files → Files → Output → Output → Ending → Type 0
 IsHeldOn c plans first ready before after files files_after out out_after (Told ended) =
-    (given : List ℕ) × (text : List ℕ) × (status : Status) × Consumes before.left after.left given
-    × IsServed c plans first (ready ++ given) before after files files_after text status × IsTold status text out out_after ended
+    (given : List ℕ) × (d : Dialogue) × (status : Status) × Consumes before.left after.left given
+    × IsServed c plans first (ready ++ given) before after files files_after d status × IsDialogueTold d status out out_after ended
 IsHeldOn c plans first ready before after files files_after out out_after (Due found) =
     IsNotServedOn c files files_after found × (out_after ≡ out) × (after ≡ before)
 
 -- what the command comes to
 abbrev pub IsServeDue : Input → Input → Files → Files → Output → Output → Ending → Type 0
 IsServeDue before after files files_after out out_after (Told ended) =
-    (text : List ℕ) × (status : Status) × IsServeTold before after files files_after text status
-    × IsTold status text out out_after ended
+    (d : Dialogue) × (status : Status) × IsServeTold before after files files_after d status × IsDialogueTold d status out out_after ended
 IsServeDue before after files files_after out out_after (Due found) =
     IsNotServed before after files files_after found × (out_after ≡ out)
 

@@ -1,6 +1,5 @@
 // The command `serve`.
 ghost use Rattle.std.specs.Prelude.{◌≡◌, ◌≤◌, true, false, Err, IfOk, IfErr, ⊤};
-ghost use Rattle.process_flow.specs.Causes.{Rose};
 ghost use Rattle.process_tree.specs.Order.{Each};
 ghost use Rattle.commute_table.specs.Operations.{IsCatalog};
 ghost use Rattle.process_core.specs.Cores.{IsCore};
@@ -8,7 +7,6 @@ ghost use Rattle.history_files.specs.Boxes.{AreBoxes};
 ghost use Rattle.history_files.specs.Standing.{EachFits};
 ghost use Rattle.engine_steps.specs.Beginning.{IsPlanFor};
 ghost use Rattle.engine_steps.specs.Opening.{IsOpened};
-ghost use Rattle.command_refusals.specs.declared.status.Status.TheVariants as statuses;
 ghost use Rattle.command_input.specs.Early.{comes_before_files};
 ghost use Rattle.command_input.specs.FilesLeft.{AreLeft, files};
 ghost use Rattle.command_input.specs.Inputs.{input};
@@ -124,8 +122,6 @@ fn on_files<S: Source, K: Sink, R: Rack + Drop, B: Resource>(
     ensures due { IsHeldOn scene.catalog scene.plans.items scene.first scene.reader (input S.Source source.old)
         (input S.Source source.new) (files R.Rack parts.rack) (files R.Rack result.parts.rack)
         (output K.Sink sink.old) (output K.Sink sink.new) result.ending }
-    ensures written { OnEnding (λ ended. ended ≡ statuses.WriteFault → Rose (K.faults sink.old) (K.faults sink.new))
-        (λ _. ⊤) result.ending }
     ensures late { OnEnding (λ _. ⊤) (λ found. IfErr found (λ r. comes_before_files r ≡ false)) result.ending }
     ensures unsaid { OnEnding (λ _. ⊤) (λ found. IfOk found (λ _. ⊥)) result.ending }
     ensures later { S.faults source.old ≤ S.faults source.new }

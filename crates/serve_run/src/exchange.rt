@@ -1,9 +1,8 @@
 // One line of a driver and its answer.
-ghost use Rattle.std.specs.Prelude.{◌≡◌, ◌++◌, ◌≤◌, ◌⊎◌, ℕ, List, length, IfNone, IfSome, IfOk};
+ghost use Rattle.std.specs.Prelude.{◌≡◌, ◌≤◌, ◌⊎◌, ℕ, List, [], length, IfNone, IfSome, IfOk};
 ghost use Rattle.std.specs.Io.KnownBytes.{Appends};
 ghost use Rattle.process_flow.specs.Causes.{Rose};
 ghost use Rattle.process_tree.specs.Order.{Each};
-ghost use Rattle.process_tree.specs.declared.plan.Plan.{Plan as Plan'};
 ghost use Rattle.process_text.specs.Canonical.{line_of};
 ghost use Rattle.history_files.specs.Standing.{EachFits};
 ghost use Rattle.engine_steps.specs.Beginning.{IsPlanFor};
@@ -91,7 +90,7 @@ fn respond<K: Sink, R: Rack + Drop, B: Resource>(
     ensures over { IfSome result
         (IsCutAmid K.Sink R.Rack plans.now
         (state_of engine.old.core hand.old) number line.now sink.old sink.new engine.old engine.new) }
-    ensures goes { (spelled : List Plan') × GoesOn R.Rack (plans.now ++ spelled) engine.old engine.new }
+    ensures goes { IfNone result (GoesOn R.Rack [] engine.old engine.new) }
     ensures at_hand { IfNone result (AreAtHand engine.new hand.new) }
     ensures ready { IfNone result (IsReady B.Resource engine.new) }
     ensures between { IfNone result (IsBetween R.Rack engine.new) }

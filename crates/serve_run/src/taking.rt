@@ -1,7 +1,8 @@
 // What comes next of a dialogue.
-ghost use Rattle.std.specs.Prelude.{◌≡◌, ◌≤◌, ◌⊎◌, ℕ, List, IfOk, IfErr, OnOk};
+ghost use Rattle.std.specs.Prelude.{◌≡◌, ◌≤◌, ◌⊎◌, ◌++◌, ℕ, List, None, IfOk, IfErr, OnOk};
 ghost use Rattle.std.specs.Io.KnownBytes.{Consumes};
 ghost use Rattle.process_flow.specs.Causes.{Rose};
+ghost use Rattle.trace_verify.specs.Lines.{cut};
 ghost use Rattle.serve_run.specs.Dialogue.{IsNext};
 
 use crate::faults::Fault;
@@ -34,7 +35,9 @@ pub fn next_line<S: Source>(
         (λ f. ((f ≡ Fault.ReadFault) × Rose (S.faults source.old) (S.faults source.new)) ⊎ (f ≡ Fault.NoMemory)) }
     ensures later { S.faults source.old ≤ S.faults source.new }
     ensures quiet { OnOk result (S.faults source.new ≡ S.faults source.old) }
-    ensures gave { IfErr result (λ _. (given : List ℕ) × Consumes (S.left source.old) (S.left source.new) given) }
+    // The source was called only where no line stood ready.
+    ensures gave { IfErr result (λ f. (given : List ℕ) × Consumes (S.left source.old) (S.left source.new) given
+        × (f ≡ Fault.ReadFault → cut 10 (reader.old ++ given) ≡ None)) }
 {
     match reader.take_line(alloc, source, MOST_LINE) {
         Ok(Taken::Line(line)) => {

@@ -25,10 +25,13 @@ use Rattle.engine_steps.specs.Beginning.{IsDueToStart, IsPlanFor, of_start_why}
 use Rattle.engine_steps.specs.Engines.{EngineState}
 use Rattle.engine_steps.specs.declared.beginning.EngineStartWhy.{EngineStartWhy}
 use Rattle.engine_calls.specs.Acknowledged.{IsOneOf}
+use Rattle.scenario_run.proofs.OneOf.{equal_plan}
 use Rattle.session_text.specs.Answers.{not_started_words, started_words}
+use Rattle.session_text.specs.declared.line.Line.{Line}
+use Rattle.session_text.specs.declared.line.Line.TheVariants.{Start, Admit, Next, Finish, Queue, Flush, Abort, Show, Stop}
 use Rattle.session_play.specs.Answering.{IsAnswered}
 use Rattle.session_play.specs.Pieces.{session_of}
-use Rattle.session_play.specs.Playing.{plan_named, play_start, start_unless}
+use Rattle.session_play.specs.Playing.{plan_for, plan_named, play_start, start_unless}
 
 -- the number of a process that started
 abbrev number_in : Reply → ℕ → ℕ
@@ -82,6 +85,23 @@ copy_starts c p q equal is = record {
 pub found_among : (plans : List Plan) (test : Plan → Bool) (p : Plan) → find test plans ≡ Some p → Contains plans p
 found_among plans test p found = Each-find (Contains plans) test plans p (Each-contained (Contains plans) plans (λ q among. among)) found
 
--- So its copy equals one of them.
-pub copy_is_one : (plans : List Plan) (name : List ℕ) (p q : Plan) → plan_named plans name ≡ Some p → AreEqualPlans p q → IsOneOf plans q
-copy_is_one plans name p q found equal = (p, found_among plans (λ (x : Plan). same_text x.name name) p found, equal)
+-- So it is one of them,
+pub named_is_one : (plans : List Plan) (name : List ℕ) (p : Plan) → plan_named plans name ≡ Some p → IsOneOf plans p
+named_is_one plans name p found = (p, found_among plans (λ (x : Plan). same_text x.name name) p found, equal_plan p)
+
+-- and its copy equals whatever it equals.
+pub one_of_copy : (plans : List Plan) (p q : Plan) → IsOneOf plans p → AreEqualPlans p q → IsOneOf plans q
+one_of_copy plans p q (x, among, same) equal =
+    (x, among, record { name = same.name ∙ equal.name; tree = same.tree ∙ equal.tree; says = same.says ∙ equal.says; ops = same.ops ∙ equal.ops })
+
+-- The plan that a line takes is one of them.
+pub planned_is_one : (plans : List Plan) (line : Line) (p : Plan) → plan_for plans line ≡ Some p → IsOneOf plans p
+planned_is_one plans (Start name) p found = named_is_one plans name p found
+planned_is_one plans (Admit i) p found = absurd (cc)
+planned_is_one plans Next p found = absurd (cc)
+planned_is_one plans (Finish n outcome) p found = absurd (cc)
+planned_is_one plans (Queue n outcome) p found = absurd (cc)
+planned_is_one plans Flush p found = absurd (cc)
+planned_is_one plans (Abort i) p found = absurd (cc)
+planned_is_one plans Show p found = absurd (cc)
+planned_is_one plans Stop p found = absurd (cc)

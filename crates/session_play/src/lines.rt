@@ -1,11 +1,14 @@
 // The lines of a session.
-ghost use Rattle.std.specs.Prelude.{◌≡◌, ◌≢◌, Err, IfOk, IfErr, OnOk};
+ghost use Rattle.std.specs.Prelude.{◌≡◌, ◌≢◌, List, Some, Err, IfOk, IfErr, OnOk};
 ghost use Rattle.process_tree.specs.Order.{Each};
+ghost use Rattle.process_tree.specs.declared.plan.Plan.{Plan as Plan'};
 ghost use Rattle.engine_steps.specs.Beginning.{IsPlanFor};
 ghost use Rattle.history_files.specs.Standing.{EachFits};
+ghost use Rattle.engine_calls.specs.Acknowledged.{IsOneOf};
 ghost use Rattle.engine_calls.specs.Runs.{GoesOn, IsClosedByFault, IsReady};
 ghost use Rattle.session_play.specs.Answering.{AnswersLine, CutsLine};
 ghost use Rattle.session_play.specs.AtHand.{session_with, AreAtHand};
+ghost use Rattle.session_play.specs.Playing.{plan_for};
 ghost use Rattle.session_play.specs.declared.cut.Cut.TheVariants.{DiskFault};
 
 use crate::asking::{play_abort, play_admit, play_next};
@@ -40,7 +43,9 @@ pub fn play_line<R: Rack + Drop, B: Resource>(
     ensures cut { IfErr result (λ cut. CutsLine engine.old.catalog plans.now
         (session_with engine.old.core hand.old) line.now cut engine.old.core engine.new.core) }
     ensures fault { IfErr result (λ cut. cut ≡ DiskFault → IsClosedByFault R.Rack engine.old engine.new) }
-    ensures goes { GoesOn R.Rack plans.now engine.old engine.new }
+    // No start was under way but of the plan that the line takes.
+    ensures goes { (may_start : List Plan') → ((p : Plan') → plan_for plans.now line.now ≡ Some p → IsOneOf may_start p)
+        → GoesOn R.Rack may_start engine.old engine.new }
     ensures fits { EachFits B.Resource engine.new.files.stores }
     ensures ready { result ≢ Err DiskFault → IsReady B.Resource engine.new }
 {

@@ -117,7 +117,9 @@ pub fn play_start<R: Rack + Drop, B: Resource>(
         (play_start (session_of engine.old.core ps queued) name.now copy) engine.old.core engine.new.core)) }
     ensures queued { OnOk result (KeepsQueued engine.old engine.new) }
     ensures fault { IfErr result (λ cut. cut ≡ DiskFault → IsClosedByFault R.Rack engine.old engine.new) }
-    ensures goes { GoesOn R.Rack plans.now engine.old engine.new }
+    // No start was under way but of the plan of that name.
+    ensures goes { (may_start : List Plan) → ((p : Plan) → plan_named plans.now name.now ≡ Some p → IsOneOf may_start p)
+        → GoesOn R.Rack may_start engine.old engine.new }
     ensures fits { EachFits B.Resource engine.new.files.stores }
     ensures ready { result ≢ Err DiskFault → IsReady B.Resource engine.new }
 {

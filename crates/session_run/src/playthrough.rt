@@ -1,11 +1,14 @@
 // The lines of a session, one after another.
-ghost use Rattle.std.specs.Prelude.{◌≡◌, ◌≢◌, ◌≤◌, ◌+◌, ◌++◌, [], ℕ, List, Err, vec_len, vec_capacity, IfErr, OnOk, OnErr};
+ghost use Rattle.std.specs.Prelude.{◌≡◌, ◌≢◌, ◌≤◌, ◌+◌, ◌++◌, [], ℕ, List, Some, Err, vec_len, vec_capacity, IfErr, OnOk, OnErr};
 ghost use Rattle.process_tree.specs.Order.{Each};
+ghost use Rattle.process_tree.specs.declared.plan.Plan.{Plan as Plan'};
 ghost use Rattle.history_files.specs.Standing.{EachFits};
 ghost use Rattle.engine_steps.specs.Beginning.{IsPlanFor};
+ghost use Rattle.engine_calls.specs.Acknowledged.{IsOneOf};
 ghost use Rattle.engine_calls.specs.Runs.{GoesOn, IsClosedByFault, IsReady};
 ghost use Rattle.session_play.specs.Answering.{AnswersLine, CutsLine};
 ghost use Rattle.session_play.specs.AtHand.{session_with, AreAtHand};
+ghost use Rattle.session_play.specs.Playing.{plan_for};
 ghost use Rattle.session_play.specs.declared.cut.Cut.TheVariants.{DiskFault};
 ghost use Rattle.session_run.specs.Playthrough.{fault_line, status_of, HasPlayed};
 
@@ -76,7 +79,8 @@ fn answer_line<R: Rack + Drop, B: Resource>(
     ensures left { OnErr result (said.new.items ≡ said.old.items) }
     ensures room { vec_len said.new + 11 ≤ vec_capacity said.new }
     ensures fault { IfErr result (λ cut. cut ≡ DiskFault → IsClosedByFault R.Rack engine.old engine.new) }
-    ensures goes { GoesOn R.Rack plans.now engine.old engine.new }
+    ensures goes { (may_start : List Plan') → ((p : Plan') → plan_for plans.now line.now ≡ Some p → IsOneOf may_start p)
+        → GoesOn R.Rack may_start engine.old engine.new }
     ensures fits { EachFits B.Resource engine.new.files.stores }
     ensures ready { result ≢ Err DiskFault → IsReady B.Resource engine.new }
 {

@@ -234,8 +234,24 @@ async function readAll() {
   world.isEndedDrawn = false;
   world.queued = told.queued_count;
   world.event = told.event;
-  world.state = told.open ? ["live", "live"] : ["fault", `not open: waits for ${told.waits_for}`];
+  tellWhetherOpen(told.open, `the service waits for ${told.waits_for}`);
   draw();
+}
+
+let nextLook = 0;
+
+/** While the service isn't open it is asked again each second: no event tells that it has opened. */
+function tellWhetherOpen(isOpen, what) {
+  world.state = isOpen ? ["live", "live"] : ["fault", `not open: ${what.replace("the service ", "")}`];
+  clearTimeout(nextLook);
+  if (!isOpen) nextLook = setTimeout(lookWhetherOpen, 1000);
+}
+
+async function lookWhetherOpen() {
+  const look = nextLook, answer = await fetch("/ready").catch(() => null);
+  if (!answer || look !== nextLook) return;
+  tellWhetherOpen(answer.ok, answer.ok ? "" : (await answer.json()).what);
+  drawSoon();
 }
 
 /** What each event makes of the world. Those of other names change nothing that is drawn. */

@@ -2,12 +2,12 @@ use Rattle.std.proofs.Common.{◌≡◌, ℕ, ◌-◌, ◌<◌, ◌+◌, ◌++�
 use Rattle.schedule_model.proofs.Members.{among-filter}
 use Rattle.schedule_rules.proofs.ListTests.{each-among, each_from}
 use Rattle.dependence_model.specs.SerialOrder.{first_free, ordered, then_others}
-use Rattle.audit_core.specs.Arrows.{AreBelow, arrow_in}
+use Rattle.audit_core.specs.Arrows.{AreBelow, arrow_in, columns}
 use Rattle.audit_core.proofs.ordering.ordered.Goals as goal
 
 below-filter : (i : ℕ) (xs : List ℕ) → AreBelow xs → AreBelow (filter (λ k. not (nat_eq k i)) xs)
-below-filter i xs below = each_from (λ (k : ℕ). k < 256) (filter (λ k. not (nat_eq k i)) xs)
-    (λ k is. each-among (λ (j : ℕ). j < 256) k xs below (among-filter (λ j. not (nat_eq j i)) k xs is).0)
+below-filter i xs below = each_from (λ (k : ℕ). k < columns) (filter (λ k. not (nat_eq k i)) xs)
+    (λ k is. each-among (λ (j : ℕ). j < columns) k xs below (among-filter (λ j. not (nat_eq j i)) k xs is).0)
 
 pub loop-left-preserved : goal.loop-left-preserved
 loop-left-preserved c =

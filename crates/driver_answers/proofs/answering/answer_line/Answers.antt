@@ -1,4 +1,5 @@
-use Rattle.std.proofs.Common.{◌≡◌, ◌∙◌, ◌⊎◌, List, [], ◌∷◌, ◌++◌, length, nat_eq, true, Some, ap, sym, subst}
+use Rattle.std.proofs.Common.{◌≡◌, ◌∙◌, ◌⊎◌, List, [], ◌∷◌, length, nat_eq, true, Some, ap, sym, subst}
+use Rattle.process_tree.proofs.Every.{Each-weaker}
 use Rattle.process_tree.specs.declared.plan.Plan.{Plan}
 use Rattle.command_input.specs.Scenarios.{AreGoodPlans}
 use Rattle.machine_model.specs.Replies.{Handed}
@@ -10,59 +11,66 @@ use Rattle.session_play.specs.declared.cut.Cut.TheVariants.{DiskFault, NoMemory}
 use Rattle.session_play.proofs.AskedPieces.{all_stay}
 use Rattle.session_play.proofs.Outcomes.{err_map, ok_map, on_ok_both}
 use Rattle.driver_requests.specs.Requests.{request_of}
-use Rattle.driver_requests.specs.declared.request.Request.TheVariants.{StartSpelled}
-use Rattle.driver_answers.specs.Serving.{IsLineAnswered, IsLineCut, IsSpelledAnswered}
+use Rattle.driver_requests.specs.declared.request.Request.TheVariants.{Session, StartSpelled}
+use Rattle.driver_answers.specs.Serving.{AsksToStart, IsLineAnswered, IsLineCut, IsSpelledAnswered}
 use Rattle.driver_answers.proofs.AnsweredLines.{line_answered, spelled_line_cut}
-use Rattle.driver_answers.proofs.MoreStarts.{goes_at_rest, goes_wider, one_of_left, one_of_right}
+use Rattle.driver_answers.proofs.MoreStarts.{goes_at_rest, goes_by_session}
 use Rattle.driver_answers.proofs.answering.answer_line.Goals as goal
 
 pub returns-then-is_empty-clause-goes : goal.returns-then-is_empty-clause-goes
-returns-then-is_empty-clause-goes g c = goes_at_rest g.R.Rack c.args.plans.now c.args.engine.now c.invariant_holds.ensures.run (c.invariant_holds.ensures.each c.requires.ready.settled)
+returns-then-is_empty-clause-goes g c = goes_at_rest g.R.Rack (AsksToStart c.args.engine.now.catalog c.args.plans.now c.args.line.now (request_of c.args.line.now)) c.args.engine.now c.invariant_holds.ensures.run (c.invariant_holds.ensures.each c.requires.ready.settled)
 
 pub returns-in_err-line-clause-goes : goal.returns-in_err-line-clause-goes
-returns-in_err-line-clause-goes g c = goes_at_rest g.R.Rack c.args.plans.now c.args.engine.now c.invariant_holds.ensures.run (c.invariant_holds.ensures.each c.requires.ready.settled)
+returns-in_err-line-clause-goes g c = goes_at_rest g.R.Rack (AsksToStart c.args.engine.now.catalog c.args.plans.now c.args.line.now (request_of c.args.line.now)) c.args.engine.now c.invariant_holds.ensures.run (c.invariant_holds.ensures.each c.requires.ready.settled)
 
 pub returns-in_err-pieces_text-in-Some-Pieces-clause-goes : goal.returns-in_err-pieces_text-in-Some-Pieces-clause-goes
-returns-in_err-pieces_text-in-Some-Pieces-clause-goes g c = goes_at_rest g.R.Rack c.args.plans.now c.args.engine.now c.invariant_holds.ensures.run (c.invariant_holds.ensures.each c.requires.ready.settled)
+returns-in_err-pieces_text-in-Some-Pieces-clause-goes g c = goes_at_rest g.R.Rack (AsksToStart c.args.engine.now.catalog c.args.plans.now c.args.line.now (request_of c.args.line.now)) c.args.engine.now c.invariant_holds.ensures.run (c.invariant_holds.ensures.each c.requires.ready.settled)
 
 pub returns-in_ok-pieces_text-in-Some-Pieces-clause-goes : goal.returns-in_ok-pieces_text-in-Some-Pieces-clause-goes
-returns-in_ok-pieces_text-in-Some-Pieces-clause-goes g c = goes_at_rest g.R.Rack c.args.plans.now c.args.engine.now c.invariant_holds.ensures.run (c.invariant_holds.ensures.each c.requires.ready.settled)
+returns-in_ok-pieces_text-in-Some-Pieces-clause-goes g c = goes_at_rest g.R.Rack (AsksToStart c.args.engine.now.catalog c.args.plans.now c.args.line.now (request_of c.args.line.now)) c.args.engine.now c.invariant_holds.ensures.run (c.invariant_holds.ensures.each c.requires.ready.settled)
 
 pub returns-in_err-happened_text-in-Some-Happened-clause-goes : goal.returns-in_err-happened_text-in-Some-Happened-clause-goes
-returns-in_err-happened_text-in-Some-Happened-clause-goes g c = goes_at_rest g.R.Rack c.args.plans.now c.args.engine.now c.invariant_holds.ensures.run (c.invariant_holds.ensures.each c.requires.ready.settled)
+returns-in_err-happened_text-in-Some-Happened-clause-goes g c = goes_at_rest g.R.Rack (AsksToStart c.args.engine.now.catalog c.args.plans.now c.args.line.now (request_of c.args.line.now)) c.args.engine.now c.invariant_holds.ensures.run (c.invariant_holds.ensures.each c.requires.ready.settled)
 
 pub returns-in_ok-happened_text-in-Some-Happened-clause-goes : goal.returns-in_ok-happened_text-in-Some-Happened-clause-goes
-returns-in_ok-happened_text-in-Some-Happened-clause-goes g c = goes_at_rest g.R.Rack c.args.plans.now c.args.engine.now c.invariant_holds.ensures.run (c.invariant_holds.ensures.each c.requires.ready.settled)
+returns-in_ok-happened_text-in-Some-Happened-clause-goes g c = goes_at_rest g.R.Rack (AsksToStart c.args.engine.now.catalog c.args.plans.now c.args.line.now (request_of c.args.line.now)) c.args.engine.now c.invariant_holds.ensures.run (c.invariant_holds.ensures.each c.requires.ready.settled)
 
 pub returns-in_err-started_text-in-Some-Started-clause-goes : goal.returns-in_err-started_text-in-Some-Started-clause-goes
-returns-in_err-started_text-in-Some-Started-clause-goes g c = goes_at_rest g.R.Rack c.args.plans.now c.args.engine.now c.invariant_holds.ensures.run (c.invariant_holds.ensures.each c.requires.ready.settled)
+returns-in_err-started_text-in-Some-Started-clause-goes g c = goes_at_rest g.R.Rack (AsksToStart c.args.engine.now.catalog c.args.plans.now c.args.line.now (request_of c.args.line.now)) c.args.engine.now c.invariant_holds.ensures.run (c.invariant_holds.ensures.each c.requires.ready.settled)
 
 pub returns-in_ok-started_text-in-Some-Started-clause-goes : goal.returns-in_ok-started_text-in-Some-Started-clause-goes
-returns-in_ok-started_text-in-Some-Started-clause-goes g c = goes_at_rest g.R.Rack c.args.plans.now c.args.engine.now c.invariant_holds.ensures.run (c.invariant_holds.ensures.each c.requires.ready.settled)
+returns-in_ok-started_text-in-Some-Started-clause-goes g c = goes_at_rest g.R.Rack (AsksToStart c.args.engine.now.catalog c.args.plans.now c.args.line.now (request_of c.args.line.now)) c.args.engine.now c.invariant_holds.ensures.run (c.invariant_holds.ensures.each c.requires.ready.settled)
 
 pub returns-in_err-bad_line-in-None-clause-goes : goal.returns-in_err-bad_line-in-None-clause-goes
-returns-in_err-bad_line-in-None-clause-goes g c = goes_at_rest g.R.Rack c.args.plans.now c.args.engine.now c.invariant_holds.ensures.run (c.invariant_holds.ensures.each c.requires.ready.settled)
+returns-in_err-bad_line-in-None-clause-goes g c = goes_at_rest g.R.Rack (AsksToStart c.args.engine.now.catalog c.args.plans.now c.args.line.now (request_of c.args.line.now)) c.args.engine.now c.invariant_holds.ensures.run (c.invariant_holds.ensures.each c.requires.ready.settled)
 
 pub returns-in_ok-bad_line-in-None-clause-goes : goal.returns-in_ok-bad_line-in-None-clause-goes
-returns-in_ok-bad_line-in-None-clause-goes g c = goes_at_rest g.R.Rack c.args.plans.now c.args.engine.now c.invariant_holds.ensures.run (c.invariant_holds.ensures.each c.requires.ready.settled)
+returns-in_ok-bad_line-in-None-clause-goes g c = goes_at_rest g.R.Rack (AsksToStart c.args.engine.now.catalog c.args.plans.now c.args.line.now (request_of c.args.line.now)) c.args.engine.now c.invariant_holds.ensures.run (c.invariant_holds.ensures.each c.requires.ready.settled)
 
 pub returns-in-Some-Session-clause-goes : goal.returns-in-Some-Session-clause-goes
 returns-in-Some-Session-clause-goes g c =
-    let plans = c.args.plans.now in
-    ([], goes_wider g.R.Rack c.args.engine.now c.answer_session.new.engine plans (plans ++ []) (one_of_left plans []) c.answer_session.ensures.goes)
+    let form : request_of c.args.line.now ≡ Some (Session c.in-Some-Session.line) = sym c.in_ok-line.ensures ∙ (c.in-Some-Session.is ∙ ap Some c.in-Some-Session.field-0-is) in
+    goes_by_session g.R.Rack c.args.engine.now.catalog c.args.plans.now c.args.line.now c.in-Some-Session.line c.args.engine.now c.answer_session.new.engine form c.answer_session.ensures.goes
 
 pub returns-in-Some-StartSpelled-clause-goes : goal.returns-in-Some-StartSpelled-clause-goes
 returns-in-Some-StartSpelled-clause-goes g c =
+    let cat = c.args.engine.now.catalog in
     let plans = c.args.plans.now in
-    let goes = c.start_spelled.ensures.goes in
-    (goes.0, goes.1 (plans ++ goes.0) (one_of_right plans goes.0))
+    let line = c.args.line.now in
+    let form : request_of line ≡ Some StartSpelled = sym c.in_ok-line.ensures ∙ (c.in-Some-StartSpelled.is ∙ ap Some c.in-Some-StartSpelled.field-0-is) in
+    let goes = c.start_spelled.ensures.goes in (
+      goes.0,
+      Each-weaker (λ p. AreGoodPlans cat.ops c.behind.result.now (p ∷ [])) (AsksToStart cat plans line (request_of line))
+          (λ p good. subst (λ r. AsksToStart cat plans line r p) (sym form) (subst (λ text. AreGoodPlans cat.ops text (p ∷ [])) c.behind.ensures good)) goes.0 goes.1,
+      goes.2 goes.0 (λ p one. one),
+    )
 
 pub returns-in-Some-StartSpelled-clause-at_hand : goal.returns-in-Some-StartSpelled-clause-at_hand
 returns-in-Some-StartSpelled-clause-at_hand g c =
     let old = c.args.engine.now in
     let new = c.start_spelled.new.engine in
     let spelled = c.start_spelled.ensures.goes in
-    let goes = spelled.1 spelled.0 (λ p one. one) in
+    let goes = spelled.2 spelled.0 (λ p one. one) in
     on_ok_both c.start_spelled.result ((queued : List Handed) → AreQueued old queued → AreQueued new queued) (AreAtHand new c.args.hand.now) c.start_spelled.ensures.queued
     (λ stays. record {
       handed = all_stay old.core new.core goes.added c.args.hand.now.unfinished.items goes.kept c.requires.at_hand.handed;

@@ -3,6 +3,7 @@ use Rattle.process_tree.specs.declared.plan.Plan.{Plan}
 use Rattle.process_text.specs.Canonical.{line_of}
 use Rattle.engine_calls.proofs.Goes.{goes_none}
 use Rattle.machine_model.specs.Replies.{Handed}
+use Rattle.scenario_run.proofs.OneOf.{stands_among}
 use Rattle.session_play.specs.Answering.{IsAnswered, IsCut}
 use Rattle.session_play.specs.Pieces.{session_of}
 use Rattle.session_play.specs.Playing.{play_start}
@@ -13,13 +14,15 @@ use Rattle.driver_answers.proofs.SpelledStarts.{cut_of_only}
 use Rattle.driver_answers.proofs.spelled.start_one.Goals as goal
 
 pub returns-in_err-bad_line-in-None-clause-goes : goal.returns-in_err-bad_line-in-None-clause-goes
-returns-in_err-bad_line-in-None-clause-goes g c may_start one = goes_none g.R.Rack may_start c.args.engine.now c.invariant_holds.ensures.run (c.invariant_holds.ensures.each c.requires.ready.settled)
+returns-in_err-bad_line-in-None-clause-goes g c = ([], tt, (λ may_start more. goes_none g.R.Rack may_start c.args.engine.now c.invariant_holds.ensures.run (c.invariant_holds.ensures.each c.requires.ready.settled)))
 
 pub returns-in_ok-bad_line-in-None-clause-goes : goal.returns-in_ok-bad_line-in-None-clause-goes
-returns-in_ok-bad_line-in-None-clause-goes g c may_start one = goes_none g.R.Rack may_start c.args.engine.now c.invariant_holds.ensures.run (c.invariant_holds.ensures.each c.requires.ready.settled)
+returns-in_ok-bad_line-in-None-clause-goes g c = ([], tt, (λ may_start more. goes_none g.R.Rack may_start c.args.engine.now c.invariant_holds.ensures.run (c.invariant_holds.ensures.each c.requires.ready.settled)))
 
 pub returns-in-Some-clause-goes : goal.returns-in-Some-clause-goes
-returns-in-Some-clause-goes g c may_start one = c.start_named.ensures.goes may_start (one c.in-Some.plan c.in-Some.ensures.some)
+returns-in-Some-clause-goes g c =
+    let plan = c.in-Some.plan in
+    (plan ∷ [], (c.in-Some.ensures.some, tt), (λ may_start more. c.start_named.ensures.goes may_start (more plan (stands_among [] [] plan))))
 
 pub returns-in-Some-clause-answered : goal.returns-in-Some-clause-answered
 returns-in-Some-clause-answered g c =

@@ -1,4 +1,5 @@
 use Rattle.std.proofs.Common.{◌≡◌, ◌≢◌, ◌⊎◌, List, [], ◌∷◌, length, Some, inl, inr, refl, subst}
+use Rattle.process_tree.proofs.Every.{Each-weaker}
 use Rattle.process_tree.specs.declared.plan.Plan.{Plan}
 use Rattle.process_text.specs.Canonical.{line_of}
 use Rattle.commute_table.specs.declared.catalog.Catalog.{Catalog}
@@ -12,7 +13,7 @@ use Rattle.session_play.specs.declared.cut.Cut.TheVariants.{DiskFault, NoMemory}
 use Rattle.session_play.proofs.Outcomes.{err_map, ok_map}
 use Rattle.driver_requests.specs.Answers.{bad_line_words}
 use Rattle.driver_answers.specs.Serving.{IsSpelledAnswered}
-use Rattle.driver_answers.proofs.SpelledStarts.{good_start, only_is_one, spelled_cut, spelled_started}
+use Rattle.driver_answers.proofs.SpelledStarts.{good_start, spelled_cut, spelled_started}
 use Rattle.driver_answers.proofs.spelled.start_spelled.Goals as goal
 
 pub start_one-requires-clause-plans : goal.start_one-requires-clause-plans
@@ -21,16 +22,19 @@ start_one-requires-clause-plans g c =
 
 pub returns-in_err-no_plans_text-in-Err-clause-goes : goal.returns-in_err-no_plans_text-in-Err-clause-goes
 returns-in_err-no_plans_text-in-Err-clause-goes g c =
-    ([], (λ may_start more. goes_none g.R.Rack may_start c.args.engine.now c.invariant_holds.ensures.run (c.invariant_holds.ensures.each c.requires.ready.settled)))
+    ([], tt, (λ may_start more. goes_none g.R.Rack may_start c.args.engine.now c.invariant_holds.ensures.run (c.invariant_holds.ensures.each c.requires.ready.settled)))
 
 pub returns-in_ok-no_plans_text-in-Err-clause-goes : goal.returns-in_ok-no_plans_text-in-Err-clause-goes
 returns-in_ok-no_plans_text-in-Err-clause-goes g c =
-    ([], (λ may_start more. goes_none g.R.Rack may_start c.args.engine.now c.invariant_holds.ensures.run (c.invariant_holds.ensures.each c.requires.ready.settled)))
+    ([], tt, (λ may_start more. goes_none g.R.Rack may_start c.args.engine.now c.invariant_holds.ensures.run (c.invariant_holds.ensures.each c.requires.ready.settled)))
 
 pub returns-in-Ok-clause-goes : goal.returns-in-Ok-clause-goes
 returns-in-Ok-clause-goes g c =
+    let cat = c.args.engine.now.catalog in
     let plans = c.in-Ok.plans.items in
-    (plans, (λ may_start more. c.start_one.ensures.goes may_start (λ p is. more p (only_is_one plans p is))))
+    let good : AreGoodPlans cat.ops c.args.spelled.now plans = subst (λ (cat : Catalog). AreGoodPlans cat.ops c.args.spelled.now plans) c.catalog.ensures c.in-Ok.ensures.plans in
+    let goes = c.start_one.ensures.goes in
+    (goes.0, Each-weaker (λ p. plans ≡ p ∷ []) (λ p. AreGoodPlans cat.ops c.args.spelled.now (p ∷ [])) (λ p only. subst (AreGoodPlans cat.ops c.args.spelled.now) only good) goes.0 goes.1, goes.2)
 
 pub returns-in-Ok-clause-answered : goal.returns-in-Ok-clause-answered
 returns-in-Ok-clause-answered g c =

@@ -16,7 +16,7 @@ returns g c =
     let ended = c.tell_served.ensures in
     let first = first_gates c.args.workers (gates_asked (gates g.G.Gate c.args.gates.items) (gates g.G.Gate ran.gates.items)) in
     rw (ended.rack, ended.resources, ended.gates)
-    (result_is_answered (Some (Run c.args.workers))
+    (result_is_answered c.printed_lists_keep_values.ensures (Some (Run c.args.workers))
     (world g.S.Source g.K.Sink g.R.Rack g.B.Resource g.G.Gate c.args.source.now c.args.sink.now c.args.rack c.args.resources.items c.args.gates.items)
     (world g.S.Source g.K.Sink g.R.Rack g.B.Resource g.G.Gate c.run_by_first-parts.new.source c.tell_served.new.sink ran.parts.rack ran.parts.resources.items ran.gates.items)
     c.tell_served.result.status c.tell_served.result.refused ended.told.0 ended.told.1 has.left (told_are_boxes g.B.Resource ran.parts.resources.items has.back)

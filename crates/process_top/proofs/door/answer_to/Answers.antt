@@ -24,7 +24,7 @@ returns g c =
     let disk = g.R.Rack.disk left.rack in
     let b = g.B.Resource in
     let o = at_once (Some c.args.command) in
-    let answered = ending_is_answered o
+    let answered = ending_is_answered c.printed_lists_keep_values.ensures o
     (world g.S.Source g.K.Sink g.R.Rack g.B.Resource g.G.Gate c.args.source.now c.args.sink.now c.args.rack c.args.resources.items c.args.gates.items)
     (world g.S.Source g.K.Sink g.R.Rack g.B.Resource g.G.Gate c.done-served.new.source c.tell_served.new.sink left.rack left.resources.items c.done-served.new.gates.items)
     now.status now.refused ended.told.0 ended.told.1 done.left

@@ -3,7 +3,7 @@ use Rattle.command_input.specs.FilesLeft.{files}
 use Rattle.command_input.specs.Inputs.{input}
 use Rattle.command_input.specs.Outputs.{output}
 use Rattle.serve_run.specs.Serve.{IsHeldOn}
-use Rattle.serve_run.proofs.ServeDue.{held_on, written}
+use Rattle.serve_run.proofs.ServeDue.{held_on}
 use Rattle.serve_run.proofs.command.on_files.Goals as goal
 
 pub returns-in-Ok-clause-due : goal.returns-in-Ok-clause-due
@@ -18,8 +18,3 @@ returns-in-Ok-clause-due g c =
     end.ensures.begun is.rack.tells is.on c.invariant_holds.ensures.run c.invariant_holds.ensures.read c.invariant_holds.ensures.each is.rack.later cat c.into_parts.result.rack end.result is.catalog c.into_parts.ensures.rack end.ensures.held in
     subst (λ plans. IsHeldOn cat plans c.args.scene.first c.args.scene.reader (input s c.args.source.now) (input s end.new.source) (files r c.args.parts.rack) (files r c.into_parts.result.rack) (output k c.args.sink.now)
     (output k end.new.sink) end.result) c.deref.ensures.value due
-
-pub returns-in-Ok-clause-written : goal.returns-in-Ok-clause-written
-returns-in-Ok-clause-written g c =
-    let end = c.hold-ending in
-    written g.S.Source g.K.Sink g.R.Rack c.deref.result.now c.args.scene.first c.args.scene.reader c.args.source.now end.new.source c.args.sink.now end.new.sink c.in-Ok.engine end.new.engine end.result _ end.ensures.held

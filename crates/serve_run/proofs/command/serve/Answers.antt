@@ -27,7 +27,6 @@ returns-in-Ok-clause-complete g c = λ bytes cat plans h has known sound quiet q
     (output g.K.Sink c.args.sink.now) (output g.K.Sink end.new.sink) bytes cat plans h has known sound quiet quiet_out c.sound_files_are_opened.ensures end.result.ending
     (due_on (input g.S.Source c.args.source.now) (input g.S.Source c.scene_of.new.source) (input g.S.Source end.new.source) (files g.R.Rack c.args.parts.rack) (files g.R.Rack end.result.parts.rack)
     (output g.K.Sink c.args.sink.now) (output g.K.Sink end.new.sink) scene.catalog scene.plans.items scene.first scene.reader c.in-Ok.ensures.scene c.scene_of.ensures.later end.result.ending end.ensures.due)
-    end.ensures.written
 
 pub returns-in-Err-clause-due : goal.returns-in-Err-clause-due
 returns-in-Err-clause-due g c =
@@ -45,4 +44,4 @@ pub returns-in-Err-clause-complete : goal.returns-in-Err-clause-complete
 returns-in-Err-clause-complete g c = λ bytes cat plans h has known sound quiet quiet_out.
     ended_well c.args.alloc (input g.S.Source c.args.source.now) (input g.S.Source c.scene_of.new.source) (files g.R.Rack c.args.parts.rack) (files g.R.Rack c.args.parts.rack)
     (output g.K.Sink c.args.sink.now) (output g.K.Sink c.args.sink.now) bytes cat plans h has known sound quiet quiet_out c.sound_files_are_opened.ensures (Due c.said_of_none.result)
-    (returns-in-Err-clause-due g c) tt
+    (returns-in-Err-clause-due g c)

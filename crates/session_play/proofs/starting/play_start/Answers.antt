@@ -9,17 +9,17 @@ use Rattle.session_play.specs.Answering.{IsAnswered, IsCopy, IsCut}
 use Rattle.session_play.specs.Pieces.{session_of}
 use Rattle.session_play.specs.Playing.{plan_named, play_start}
 use Rattle.session_play.proofs.Outcomes.{copy_itself, cut_none, equal_swap, err_all, err_map, ok_map}
-use Rattle.session_play.proofs.StartedLines.{copy_is_one, copy_starts}
+use Rattle.session_play.proofs.StartedLines.{copy_starts, one_of_copy}
 use Rattle.session_play.proofs.starting.play_start.Goals as goal
 
 pub returns-in_err-copy-in-Some-clause-goes : goal.returns-in_err-copy-in-Some-clause-goes
-returns-in_err-copy-in-Some-clause-goes g c = goes_none g.R.Rack c.args.plans.now c.args.engine.now c.invariant_holds.ensures.run (c.invariant_holds.ensures.each c.requires.ready.settled)
+returns-in_err-copy-in-Some-clause-goes g c may_start one = goes_none g.R.Rack may_start c.args.engine.now c.invariant_holds.ensures.run (c.invariant_holds.ensures.each c.requires.ready.settled)
 
 pub returns-in_err-no_process-in-None-clause-goes : goal.returns-in_err-no_process-in-None-clause-goes
-returns-in_err-no_process-in-None-clause-goes g c = goes_none g.R.Rack c.args.plans.now c.args.engine.now c.invariant_holds.ensures.run (c.invariant_holds.ensures.each c.requires.ready.settled)
+returns-in_err-no_process-in-None-clause-goes g c may_start one = goes_none g.R.Rack may_start c.args.engine.now c.invariant_holds.ensures.run (c.invariant_holds.ensures.each c.requires.ready.settled)
 
 pub returns-in_ok-no_process-in-None-clause-goes : goal.returns-in_ok-no_process-in-None-clause-goes
-returns-in_ok-no_process-in-None-clause-goes g c = goes_none g.R.Rack c.args.plans.now c.args.engine.now c.invariant_holds.ensures.run (c.invariant_holds.ensures.each c.requires.ready.settled)
+returns-in_ok-no_process-in-None-clause-goes g c may_start one = goes_none g.R.Rack may_start c.args.engine.now c.invariant_holds.ensures.run (c.invariant_holds.ensures.each c.requires.ready.settled)
 
 pub returns-in_err-copy-in-Some-clause-cut : goal.returns-in_err-copy-in-Some-clause-cut
 returns-in_err-copy-in-Some-clause-cut g c =
@@ -36,10 +36,10 @@ play_plan-requires-clause-plan g c =
     (Each-find (IsPlanFor cat) (λ (p : Plan). same_text p.name c.args.name.now) c.args.plans.now plan c.requires.plans c.in-Some.ensures.some)
 
 pub returns-in_ok-copy-in-Some-clause-goes : goal.returns-in_ok-copy-in-Some-clause-goes
-returns-in_ok-copy-in-Some-clause-goes g c =
+returns-in_ok-copy-in-Some-clause-goes g c may_start one =
     let plan = c.in-Some.plan.now in
     let copy = c.in_ok-copy-in-Some.copy in
-    c.play_plan.ensures.goes c.args.plans.now (copy_is_one c.args.plans.now c.args.name.now plan copy c.in-Some.ensures.some (equal_swap copy plan c.in_ok-copy-in-Some.ensures))
+    c.play_plan.ensures.goes may_start (one_of_copy may_start plan copy (one plan c.in-Some.ensures.some) (equal_swap copy plan c.in_ok-copy-in-Some.ensures))
 
 pub returns-in_ok-copy-in-Some-clause-answered : goal.returns-in_ok-copy-in-Some-clause-answered
 returns-in_ok-copy-in-Some-clause-answered g c =

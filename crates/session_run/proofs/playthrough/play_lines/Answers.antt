@@ -7,6 +7,7 @@ use Rattle.process_engine.specs.Queues.{AreQueued}
 use Rattle.session_play.specs.AtHand.{Hand}
 use Rattle.session_play.specs.Pieces.{AreHandedBy, session_of}
 use Rattle.session_play.specs.Playing.{play}
+use Rattle.session_play.proofs.StartedLines.{planned_is_one}
 use Rattle.session_run.specs.Playthrough.{fault_line, status_of, HasAnswered, HasPlayed}
 use Rattle.command_refusals.specs.declared.status.Status.TheVariants.{NoMemory}
 use Rattle.session_run.proofs.AnsweredLines.{answered_more, answered_none, parted, played_cut, played_none}
@@ -57,10 +58,10 @@ loop-rest-preserved g c =
     let here = subst (λ k. IsAnswered (play k (session_of now pieces queued) l told.1.0) new.core left waiting told.0) inv.goes.catalog told.1.2 in
     record {
       answered = subst (λ said. HasAnswered cat plans core new.core left waiting lines after said) (sym told.2) (answered_more cat plans core now pieces queued lines l after text told.1.0 before told.1.1 new.core left waiting told.0 here);
-      goes = goes_then g.R.Rack plans c.args.engine.now c.loop-rest.engine new inv.ready.settled inv.core.session.one_each (g.met.R.Rack.honest new.files.rack) inv.goes c.answer_line.ensures.goes;
+      goes = goes_then g.R.Rack plans c.args.engine.now c.loop-rest.engine new inv.ready.settled inv.core.session.one_each (g.met.R.Rack.honest new.files.rack) inv.goes (c.answer_line.ensures.goes c.args.plans.now (planned_is_one c.args.plans.now _));
       ready = c.answer_line.ensures.ready (λ bad. absurd (let is = c.in_default-answer_line.is in cc));
       core = c.invariant_holds-in-len1-up.ensures.run;
-      plans = subst (λ k. Each (IsPlanFor k) plans) (sym c.answer_line.ensures.goes.catalog) inv.plans;
+      plans = subst (λ k. Each (IsPlanFor k) plans) (sym (c.answer_line.ensures.goes c.args.plans.now (planned_is_one c.args.plans.now _)).catalog) inv.plans;
       at_hand = c.in_default-answer_line.ensures.at_hand;
       room = c.answer_line.ensures.room;
     }
@@ -69,7 +70,7 @@ pub returns-in-Err-clause-goes : goal.returns-in-Err-clause-goes
 returns-in-Err-clause-goes g c =
     let inv = c.loop-rest.invariant in
     let new = c.answer_line.new.engine in
-    goes_then g.R.Rack c.args.plans.now c.args.engine.now c.loop-rest.engine new inv.ready.settled inv.core.session.one_each (g.met.R.Rack.honest new.files.rack) inv.goes c.answer_line.ensures.goes
+    goes_then g.R.Rack c.args.plans.now c.args.engine.now c.loop-rest.engine new inv.ready.settled inv.core.session.one_each (g.met.R.Rack.honest new.files.rack) inv.goes (c.answer_line.ensures.goes c.args.plans.now (planned_is_one c.args.plans.now _))
 
 pub returns-in-Err-clause-played : goal.returns-in-Err-clause-played
 returns-in-Err-clause-played g c =

@@ -1,7 +1,7 @@
 use Rattle.std.proofs.Common.{◌≡◌, [], ◌++◌, Err, inl, rules, ◌∙◌}
 use Rattle.std.specs.Io.KnownBytes.{IsAtEnd}
 use Rattle.std.proofs.KnownBytes.{Consumes-trans}
-use Rattle.line_reader.proofs.UnderWay.{goes_on, line_ends, all_taken, none_ready}
+use Rattle.line_reader.proofs.UnderWay.{goes_on, line_ends, all_taken, none_ready, none_there}
 use Rattle.line_reader.proofs.reader.LineReader.take_line.Goals as goal
 
 pub returns-then-branch-clause-taken : goal.returns-then-branch-clause-taken
@@ -26,4 +26,8 @@ returns-in_err-refill-clause-gave g c =
     let failed : c.from_residual-in_err-refill.result ≡ Err c.in_err-refill.field-0.0 = search rules in
     let way = c.loop.invariant.under_way in
     let more = c.in_err-refill.ensures.gave in
-    rw failed (way.given ++ more.0, Consumes-trans _ _ _ way.given more.0 way.gave more.1)
+    rw failed (
+      way.given ++ more.0,
+      Consumes-trans _ _ _ way.given more.0 way.gave more.1,
+      (λ is. none_there c.args.most _ _ c.take_front.new.self more.0 _ _ _ _ _ c.if-branch.false way c.in_ok-take_front.ensures (more.2 is)),
+    )

@@ -1,0 +1,5 @@
+mod Owing
+mod Rules
+mod Steps
+mod RefusedSteps
+mod FirstRefused
