@@ -10,7 +10,7 @@ import re
 import sys
 
 FILE = bytes.fromhex(
-    "7470736c01000000" "010b00" "0001010003616464000000" "011f00" "0101000000"
+    "7470736c02000000" "010b00" "0001010003616464000000" "011f00" "0101000000"
 ) + b"process a c x add 1 5 end\n" + bytes.fromhex("010800" "0201000000000000" "010500" "0301000000" "00")
 
 NAME = re.compile(rb"[a-z][a-z0-9_]{0,31}")
@@ -30,7 +30,7 @@ class Refused(Exception):
 
 def bodies(file):
     """The bodies of a log of file 0."""
-    if file[:8] != b"tpsl\x01\x00\x00\x00":
+    if file[:8] not in (b"tpsl\x01\x00\x00\x00", b"tpsl\x02\x00\x00\x00"):
         raise Refused("BadHeader")
     found, at = [], 8
     while True:

@@ -12,7 +12,7 @@ pub const TEXT: &[u8] = b"version = 1\nprocesses = \"process a c x add 1 5 c y a
     [[op]]\nname = \"add\"\nsubsystem = 0\nverb = \"add\"\n";
 
 /// The journal of its run: the header, five records behind open gates, and a closed gate.
-pub const TWO_STEPS_KEPT: &[u8] = b"tpsl\x01\x00\x00\x00\
+pub const TWO_STEPS_KEPT: &[u8] = b"tpsl\x02\x00\x00\x00\
     \x01\x0b\x00\x00\x01\x01\x00\x03add\x00\x00\x00\
     \x01\x2b\x00\x01\x01\x00\x00\x00process a c x add 1 5 c y add 1 6 end\n\
     \x01\x08\x00\x02\x01\x00\x00\x00\x00\x00\x00\

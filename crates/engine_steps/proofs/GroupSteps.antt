@@ -1,8 +1,8 @@
 -- What the steps of a group make of an engine.
-use Rattle.std.proofs.Common.{◌≡◌, ◌∙◌, ◌+◌, ◌*◌, ◌-◌, ◌≤◌, ◌<◌, ℕ, List, [], ◌∷◌, append-nil, append_assoc, Option, length, length-append, map, take, drop, get_or, refl, ap, sym, subst, arith}
+use Rattle.std.proofs.Common.{◌≡◌, ◌∙◌, ◌+◌, ◌*◌, ◌-◌, ◌≤◌, ◌<◌, ℕ, List, [], ◌∷◌, append-nil, append_assoc, length, length-append, map, take, drop, get_or, refl, ap, sym, subst, arith}
 use Rattle.std.proofs.lemmas.List.{take_all}
 use Rattle.gate_log.specs.LogFile.{records_size}
-use Rattle.gate_log.specs.Staging.{staging, unstaged, with_staged}
+use Rattle.gate_log.specs.Staging.{staging, staging_all, unstaged, with_staged}
 use Rattle.gate_log.specs.Standing.{LogState}
 use Rattle.gate_log.proofs.Logs.{records_size-push}
 use Rattle.journal_records.specs.Bytes.{bytes_of}
@@ -19,17 +19,17 @@ use Rattle.commute_table.specs.declared.catalog.Catalog.{Catalog}
 use Rattle.schedule_model.specs.declared.history.History.{History}
 use Rattle.subsystem_store.specs.declared.effect.Effect.{Effect}
 use Rattle.subsystem_store.specs.Opened.{Opened}
-use Rattle.store_group.specs.Events.{BecomeEach, IsCommitted, IsPrepared, effect_for}
+use Rattle.store_group.specs.Events.{BecomeEach, IsCommitted, IsPrepared, effects_for}
 use Rattle.process_core.specs.Cores.{CoreState}
 use Rattle.history_files.specs.Standing.{AreGoodBooks, ComeTo, FilesState, Stand}
 use Rattle.engine_steps.specs.Engines.{AreAtRest, EngineState, full_history}
-use Rattle.engine_steps.specs.Groups.{AreInDoubt, IsGroupCommitted, IsGroupPrepared, IsGroupRecorded, IsNoStart, MayBeRecorded, bodies_of, record_for, staging_all, with_events}
+use Rattle.engine_steps.specs.Groups.{AreInDoubt, IsGroupCommitted, IsGroupPrepared, IsGroupRecorded, IsNoStart, MayBeRecorded, bodies_of, record_for, with_events}
 use Rattle.engine_steps.specs.declared.engines.Phase.{Phase}
 use Rattle.engine_steps.specs.declared.engines.Phase.TheVariants as phase
 
 -- prepared behind files at rest, its effects are in doubt
-pub group_prepared : {R B : Type 0} (c : Catalog) (core : CoreState) (old new : FilesState R B) (before disk : Disk) (group : List (Option Effect)) → AreAtRest c (full_history core) old before
-    → new.journal ≡ old.journal → BecomeEach (λ q s t. IsPrepared (effect_for group q) s t) old.stores new.stores → AreGoodBooks new.stores
+pub group_prepared : {R B : Type 0} (c : Catalog) (core : CoreState) (old new : FilesState R B) (before disk : Disk) (group : List (List Effect)) → AreAtRest c (full_history core) old before
+    → new.journal ≡ old.journal → BecomeEach (λ q s t. IsPrepared (effects_for group q) s t) old.stores new.stores → AreGoodBooks new.stores
     → (Told disk → Stand c (full_history core) new.journal new.stores disk)
     → IsGroupPrepared (record { core = core; catalog = c; files = new; phase = phase.UnderWay }) disk group
 group_prepared c core old new before disk group rest journal became good stand = record {
@@ -61,11 +61,11 @@ one_more_staged first log new events (x ∷ rest) d some was is =
       acts_or_ends = was.acts_or_ends.1;
       size = let few = few_bytes x was.acts_or_ends.0 in let size = was.size in omega (arith, few, size, records_size-push log.staged (bytes_of (record_for x)));
       room = let room = was.room in omega (arith, room, length-append log.staged (bytes_of (record_for x) ∷ []));
-      journal = ap (λ bs. record { file = log.file; count = log.count; end = log.end; last = log.last; staged = bs }) (append_assoc log.staged (bytes_of (record_for x) ∷ []) (bodies_of rest)) ∙ was.journal;
+      journal = ap (λ bs. record { file = log.file; count = log.count; end = log.end; staged = bs }) (append_assoc log.staged (bytes_of (record_for x) ∷ []) (bodies_of rest)) ∙ was.journal;
     }))
 
 pub all_staged : (first log : LogState) (events rest : List Event) → length rest < 1 → IsStagedSoFar first log events rest → log ≡ staging_all first (bodies_of events)
-all_staged first log events [] none was = ap (λ bs. record { file = log.file; count = log.count; end = log.end; last = log.last; staged = bs }) (sym (append-nil log.staged)) ∙ was.journal
+all_staged first log events [] none was = ap (λ bs. record { file = log.file; count = log.count; end = log.end; staged = bs }) (sym (append-nil log.staged)) ∙ was.journal
 all_staged first log events (x ∷ rest) none was = absurd (omega (arith, none))
 
 -- a log stands for what it does, whatever is staged in it
@@ -73,7 +73,7 @@ stands_staged : {B : Type 0} (c : Catalog) (h : History) (log : LogState) (bodie
 stands_staged c h log bodies stores disk stand = record {
   journal = record {
     history = stand.journal.history;
-    log = let s = stand.journal.log in record { count = s.count; end = s.end; last = s.last; read = s.read; each = s.each };
+    log = let s = stand.journal.log in record { count = s.count; end = s.end; read = s.read; each = s.each };
   };
   stores = stand.stores;
   good = stand.good;
@@ -105,7 +105,7 @@ length_events : (h : History) (events : List Event) → length (with_events h ev
 length_events h [] = omega arith
 length_events h (e ∷ events) = omega (arith, length_events (with_event h e) events, length-append h.events (e ∷ []))
 
-module _ {R B : Type 0} (e : EngineState R B) (disk : R → Disk) (events : List Event) (group : List (Option Effect)) (law : GroupsComeTo B) (may : MayBeRecorded e (disk e.files.rack) events group) where
+module _ {R B : Type 0} (e : EngineState R B) (disk : R → Disk) (events : List Event) (group : List (List Effect)) (law : GroupsComeTo B) (may : MayBeRecorded e (disk e.files.rack) events group) where
   abbrev log : LogState
   log = staging_all (unstaged e.files.journal) (bodies_of events)
 
@@ -146,7 +146,7 @@ module _ {R B : Type 0} (e : EngineState R B) (disk : R → Disk) (events : List
     stand = stands;
   }
 
-module _ {R B : Type 0} (e : EngineState R B) (disk : Disk) (group : List (Option Effect)) (h : History) (recorded : IsGroupRecorded e disk group h) where
+module _ {R B : Type 0} (e : EngineState R B) (disk : Disk) (group : List (List Effect)) (h : History) (recorded : IsGroupRecorded e disk group h) where
   -- the history has each effect that is in doubt
   pub has_each : GroupsComeTo B → HasEachDoubt e.catalog.ops h e.files.stores
   has_each law = let d = recorded.doubt in (law e.catalog.ops (full_history e.core) h group d.settled e.files.stores recorded.adds d.before d.became).1

@@ -1,23 +1,31 @@
 -- Files in whose stores only the room changed.
 use Rattle.process_journal.specs.Opened.{Stands as JournalStands}
-use Rattle.std.proofs.Common.{◌≡◌, ◌∙◌, ◌<◌, ℕ, Bool, List, Some, None, ap, sym, subst}
-use Rattle.std.specs.List.{slice_get}
+use Rattle.std.proofs.Common.{◌≡◌, ◌∙◌, ◌<◌, ℕ, Bool, List, [], Some, ap, sym, subst}
+use Rattle.std.specs.List.{Contains, slice_get}
+use Rattle.std.proofs.lemmas.List.Elements.{Contains-push}
 use Rattle.process_disk.specs.Disk.{Disk}
 use Rattle.gate_log.specs.Standing.{StandsFor}
 use Rattle.process_tree.specs.declared.entry.Entry.{Entry}
 use Rattle.schedule_model.specs.declared.history.History.{History}
 use Rattle.commute_table.specs.declared.catalog.Catalog.{Catalog}
-use Rattle.subsystem_store.specs.Bodies.{store_bodies}
+use Rattle.subsystem_store.specs.Bodies.{SomeBodies}
 use Rattle.subsystem_store.specs.Laws.{IsGoodBook}
 use Rattle.subsystem_store.specs.Opened.{Opened, Stands}
 use Rattle.history_files.specs.Effects.{effects, subsystem_of}
 use Rattle.history_files.specs.Laws.{next_effect}
-use Rattle.history_files.specs.Rooms.{MakesRoom}
+use Rattle.history_files.specs.Rooms.{AddsRoom, HasRoomAt, MakesRoom}
 use Rattle.history_files.specs.Sound.{counted, is_barred, kind_of}
 use Rattle.history_files.specs.Standing.{AreStores, Changes, FilesState}
+use Rattle.history_files.proofs.NextBooks.{the_set}
 use Rattle.history_files.proofs.Places.{place_has, set_each}
 use Rattle.engine_steps.specs.Engines.{AreAtRest}
 use Rattle.engine_steps.specs.Pieces.{bars_act}
+
+-- with room for one effect more at a key, a store has room for an effect there
+pub room_at : {B : Type 0} (q key : ℕ) (old new : List (Opened B)) → Changes q (AddsRoom key) old new → HasRoomAt q key new
+room_at q key old new changes s at =
+    let is = the_set old q changes.after s (subst (λ ss. slice_get ss q ≡ Some s) changes.is at) in
+    subst (λ ready. Contains ready key) (sym (ap (λ (x : Opened _). x.ready) is ∙ changes.by)) (Contains-push changes.before.ready key)
 
 -- what is so of each store by its log, its kind, its book and what is in doubt is so with more room
 still_each : {B : Type 0} (P : ℕ → Opened B → Type 0) (q : ℕ) (old new : List (Opened B)) → ((s t : Opened B) → MakesRoom s t → P q s → P q t) → Changes q MakesRoom old new
@@ -29,8 +37,8 @@ still_each P q old new keeps changes each =
 module _ {B : Type 0} (q : ℕ) (c : Catalog) (h : History) where
   stands_roomy : (disk : Disk) (s t : Opened B) → MakesRoom s t → Stands s disk → Stands t disk
   stands_roomy disk s t room stands =
-      subst (λ l. StandsFor l (store_bodies t.book t.doubt) disk) (sym room.log)
-      (subst (λ b. StandsFor s.log (store_bodies b t.doubt) disk) (sym room.book) (subst (λ d. StandsFor s.log (store_bodies s.book d) disk) (sym room.doubt) stands))
+      subst (λ l. SomeBodies t.book t.doubt (λ bodies. StandsFor l bodies disk)) (sym room.log)
+      (subst (λ b. SomeBodies b t.doubt (λ bodies. StandsFor s.log bodies disk)) (sym room.book) (subst (λ d. SomeBodies s.book d (λ bodies. StandsFor s.log bodies disk)) (sym room.doubt) stands))
 
   good_roomy : (s t : Opened B) → MakesRoom s t → IsGoodBook s.kind s.book s.doubt → IsGoodBook t.kind t.book t.doubt
   good_roomy s t room good =
@@ -45,7 +53,7 @@ pub room_rests : {R B : Type 0} (c : Catalog) (h : History) (q : ℕ) (old new :
     → AreAtRest c h old disk → AreAtRest c h new disk
 room_rests c h q old new disk changes journal rest = record {
   count = ap (λ l. l.count) journal ∙ rest.count;
-  none = still_each (λ k s. s.doubt ≡ None) q old.stores new.stores (λ s t room is. room.doubt ∙ is) changes rest.none;
+  none = still_each (λ k s. s.doubt ≡ []) q old.stores new.stores (λ s t room is. room.doubt ∙ is) changes rest.none;
   books = still_each (λ k s. s.book ≡ effects c.ops h k) q old.stores new.stores (λ s t room is. room.book ∙ is) changes rest.books;
   good = still_each (λ k s. IsGoodBook s.kind s.book s.doubt) q old.stores new.stores (good_roomy q c h) changes rest.good;
   stand = λ told. let stand = rest.stand told in record {

@@ -1,5 +1,5 @@
 -- An engine in which nothing has happened.
-use Rattle.std.proofs.Common.{◌≡◌, [], None, ap, sym, subst}
+use Rattle.std.proofs.Common.{◌≡◌, [], ap, sym, subst}
 use Rattle.process_disk.specs.Disk.{Disk, Told}
 use Rattle.commute_table.specs.declared.catalog.Catalog.{Catalog}
 use Rattle.commute_table.specs.Operations.{IsCatalog}
@@ -23,7 +23,7 @@ new_under c core is catalog = record {
 }
 
 -- and its files are at rest
-pub rest_unused : {R B : Type 0} → EmptyIsGood → (c : Catalog) (files : FilesState R B) (disk : Disk) → files.journal.count ≡ 1 → AtEach (λ q s. (s.book ≡ []) × (s.doubt ≡ None)) files.stores
+pub rest_unused : {R B : Type 0} → EmptyIsGood → (c : Catalog) (files : FilesState R B) (disk : Disk) → files.journal.count ≡ 1 → AtEach (λ q s. (s.book ≡ []) × (s.doubt ≡ [])) files.stores
     → (Told disk → Stand c no_history files.journal files.stores disk) → AreAtRest c no_history files disk
 rest_unused law c files disk one unused stand = record {
   count = one;

@@ -1,5 +1,5 @@
 -- Files at rest, once the journal has a start.
-use Rattle.std.proofs.Common.{◌≡◌, ◌∙◌, ℕ, ◌+◌, [], ◌∷◌, length-append, None, sym, subst, arith}
+use Rattle.std.proofs.Common.{◌≡◌, ◌∙◌, ℕ, ◌+◌, [], ◌∷◌, length-append, sym, subst, arith}
 use Rattle.process_disk.specs.Disk.{Disk, Told}
 use Rattle.process_tree.specs.declared.plan.Plan.{Plan}
 use Rattle.schedule_model.specs.declared.event.Event.TheVariants.{Start}
@@ -31,7 +31,7 @@ module _ {R B : Type 0} (c : Catalog) (h : History) (i : ℕ) (p : Plan) (law : 
       let more = length-append h.events (Start i ∷ []) in
       record {
         count = omega (arith, one, were, more);
-        none = subst (AtEach (λ q (s : Opened B). s.doubt ≡ None)) (sym same) rest.none;
+        none = subst (AtEach (λ q (s : Opened B). s.doubt ≡ [])) (sym same) rest.none;
         books = subst (AtEach (λ q (s : Opened B). s.book ≡ effects c.ops (with_start h i p) q)) (sym same) books_after;
         good = subst (AtEach (λ q (s : Opened B). IsGoodBook s.kind s.book s.doubt)) (sym same) rest.good;
         stand = stand;

@@ -1,5 +1,5 @@
 -- What an engine is seen as, and what holds of one.
-use Rattle.std.specs.Prelude.{◌≡◌, ◌<◌, ◌+◌, ℕ, [], length, None}
+use Rattle.std.specs.Prelude.{◌≡◌, ◌<◌, ◌+◌, ℕ, [], length}
 use Rattle.process_disk.specs.Disk.{Disk, FileSet, Told}
 use Rattle.schedule_model.specs.declared.history.History.{History}
 use Rattle.commute_table.specs.declared.catalog.Catalog.{Catalog}
@@ -34,7 +34,7 @@ pub record IsUnder (c : Catalog) (core : CoreState) : Type 0 where
 -- setup, and the files stand for the history.
 pub record AreAtRest {R B : Type 0} (c : Catalog) (h : History) (files : FilesState R B) (disk : Disk) : Type 0 where
   pub count : files.journal.count ≡ length h.events + 1
-  pub none : AtEach (λ q s. s.doubt ≡ None) files.stores
+  pub none : AtEach (λ q s. s.doubt ≡ []) files.stores
   pub books : AtEach (λ q s. s.book ≡ effects c.ops h q) files.stores
   pub good : AtEach (λ q s. IsGoodBook s.kind s.book s.doubt) files.stores
   pub stand : Told disk → Stand c h files.journal files.stores disk
@@ -43,7 +43,7 @@ pub record AreAtRest {R B : Type 0} (c : Catalog) (h : History) (files : FilesSt
 pub record AreExactly (c : Catalog) (h : History) (files : FileSet) : Type 0 where
   pub history : IsHistoryUnder c h
   pub journal : IsJournalOf c h files
-  pub books : (q : ℕ) → q < 8 → IsStoreOf (q + 1) (effects c.ops h q) None files
+  pub books : (q : ℕ) → q < 8 → IsStoreOf (q + 1) (effects c.ops h q) [] files
 
 -- the engine after a call that came to this core and touched no file
 abbrev pub with_core : {R B : Type 0} → EngineState R B → CoreState → EngineState R B

@@ -1,10 +1,9 @@
 -- Several events that take effect together: prepared in their stores, recorded by one write of the journal, and committed.
-use Rattle.std.specs.Prelude.{◌≡◌, ◌≢◌, ◌≤◌, ℕ, ◌+◌, ⊤, List, [], ◌∷◌, ◌++◌, length, map, Bool, Option, is_some, Result}
+use Rattle.std.specs.Prelude.{◌≡◌, ◌≢◌, ◌≤◌, ℕ, ◌+◌, ⊤, List, [], ◌∷◌, length, map, Bool, Result}
 use Rattle.std.specs.Prelude.{OnErr}
 use Rattle.std.specs.List.{list_any}
 use Rattle.process_tree.specs.Order.{Each}
 use Rattle.process_disk.specs.Disk.{Disk, Told}
-use Rattle.gate_log.specs.Standing.{LogState}
 use Rattle.gate_log.specs.declared.errors.DiskFault.{DiskFault as DiskFailed}
 use Rattle.schedule_model.specs.declared.event.Event.{Event}
 use Rattle.schedule_model.specs.declared.event.Event.TheVariants.{Start, Act, End}
@@ -15,7 +14,7 @@ use Rattle.journal_records.specs.declared.record.Record.{Record}
 use Rattle.journal_records.specs.declared.record.Record.TheVariants as records
 use Rattle.subsystem_store.specs.declared.effect.Effect.{Effect}
 use Rattle.subsystem_store.specs.Opened.{Opened}
-use Rattle.store_group.specs.Events.{BecomeEach, IsPrepared, effect_for}
+use Rattle.store_group.specs.Events.{BecomeEach, IsPrepared, effects_for, has_any}
 use Rattle.process_journal.specs.Bodies.{with_event}
 use Rattle.process_journal.specs.Journals.{AreMadeBy}
 use Rattle.history_files.specs.Groups.{AddsGroup}
@@ -42,18 +41,18 @@ IsNoStart (Act e) = ⊤
 IsNoStart (End i) = ⊤
 
 -- there is an effect at some place
-abbrev pub has_effect : List (Option Effect) → Bool
-has_effect group = list_any is_some group
+abbrev pub has_effect : List (List Effect) → Bool
+has_effect group = list_any has_any group
 
 -- The effects of a group are in doubt, each in the store of its subsystem, behind books that are the effects of the history.
-pub record AreInDoubt {B : Type 0} (ops : List Op) (h : History) (group : List (Option Effect)) (stores : List (Opened B)) : Type 0
+pub record AreInDoubt {B : Type 0} (ops : List Op) (h : History) (group : List (List Effect)) (stores : List (Opened B)) : Type 0
   where
     pub settled : List (Opened B)
     pub before : AreSettled ops h settled
-    pub became : BecomeEach (λ q s t. IsPrepared (effect_for group q) s t) settled stores
+    pub became : BecomeEach (λ q s t. IsPrepared (effects_for group q) s t) settled stores
 
 -- A group is prepared: its effects are in doubt, and the files stand for the history, which lacks its events.
-pub record IsGroupPrepared {R B : Type 0} (e : EngineState R B) (disk : Disk) (group : List (Option Effect)) : Type 0 where
+pub record IsGroupPrepared {R B : Type 0} (e : EngineState R B) (disk : Disk) (group : List (List Effect)) : Type 0 where
   pub phase : e.phase ≡ phase.UnderWay
   pub count : e.files.journal.count ≡ length (full_history e.core).events + 1
   pub doubt : AreInDoubt e.catalog.ops (full_history e.core) group e.files.stores
@@ -61,7 +60,7 @@ pub record IsGroupPrepared {R B : Type 0} (e : EngineState R B) (disk : Disk) (g
   pub stand : Told disk → Stand e.catalog (full_history e.core) e.files.journal e.files.stores disk
 
 -- A group is recorded: its effects are in doubt, and the files stand for the history with its events, which adds them.
-pub record IsGroupRecorded {R B : Type 0} (e : EngineState R B) (disk : Disk) (group : List (Option Effect)) (h : History) : Type 0
+pub record IsGroupRecorded {R B : Type 0} (e : EngineState R B) (disk : Disk) (group : List (List Effect)) (h : History) : Type 0
   where
     pub phase : e.phase ≡ phase.UnderWay
     pub count : e.files.journal.count ≡ length h.events + 1
@@ -81,17 +80,12 @@ pub record LeavesCore {R B : Type 0} (old new : EngineState R B) (result : Resul
   pub catalog : new.catalog ≡ old.catalog
   pub closed : OnErr result (new.phase ≡ phase.Closed)
 
--- the log in which these bodies are staged behind those that are
-abbrev pub staging_all : LogState → List (List ℕ) → LogState
-staging_all log bodies =
-    record { file = log.file; count = log.count; end = log.end; last = log.last; staged = log.staged ++ bodies }
-
 -- the bodies of the records of these events
 abbrev pub bodies_of : List Event → List (List ℕ)
 bodies_of events = map (λ e. bytes_of (record_for e)) events
 
 -- A prepared group may be recorded by its events: the journal may have the history with each, and they add its effects.
-pub record MayBeRecorded {R B : Type 0} (e : EngineState R B) (disk : Disk) (events : List Event) (group : List (Option Effect))
+pub record MayBeRecorded {R B : Type 0} (e : EngineState R B) (disk : Disk) (events : List Event) (group : List (List Effect))
     : Type 0 where
   pub prepared : IsGroupPrepared e disk group
   pub made : AreMadeBy e.catalog (map record_for events) (full_history e.core) (with_events (full_history e.core) events)

@@ -1,12 +1,12 @@
 // Several events take effect together: prepared, recorded, committed, and kept.
-ghost use Rattle.std.specs.Prelude.{◌≡◌, ◌≤◌, ◌<◌, ◌+◌, ◌*◌, ◌^◌, false, List, Option, length, IsErr, OnOk};
+ghost use Rattle.std.specs.Prelude.{◌≡◌, ◌≤◌, ◌<◌, ◌+◌, ◌*◌, ◌^◌, false, List, length, IsErr, OnOk};
 ghost use Rattle.process_tree.specs.Order.{Each};
 ghost use Rattle.process_tree.specs.declared.play.Outcome.TheVariants.{Done};
 ghost use Rattle.process_disk.specs.Disk.{Told};
 ghost use Rattle.process_disk.specs.Images.{EachImage};
 ghost use Rattle.process_disk.specs.Racks.{LeavesImages};
 ghost use Rattle.gate_log.specs.LogFile.{records_size};
-ghost use Rattle.gate_log.specs.Staging.{staging};
+ghost use Rattle.gate_log.specs.Staging.{staging, staging_all};
 ghost use Rattle.schedule_model.specs.declared.history.History.{History};
 ghost use Rattle.machine_model.specs.declared.replies.PieceState.TheVariants.{Out};
 ghost use Rattle.machine_model.specs.Advance.{event_of};
@@ -24,7 +24,7 @@ ghost use Rattle.history_files.specs.Standing.{EachFits};
 ghost use Rattle.engine_steps.specs.Engines.{AreAtRest, full_history, with_core};
 ghost use Rattle.engine_steps.specs.Groups.{AreGroupEvents, IsGroupCommitted, IsGroupPrepared, IsGroupRecorded, IsNoStart};
 ghost use Rattle.engine_steps.specs.Groups.{LeavesCore, MayBeRecorded, has_effect, settled_as};
-ghost use Rattle.engine_steps.specs.Groups.{bodies_of, record_for, staging_all, with_events};
+ghost use Rattle.engine_steps.specs.Groups.{bodies_of, record_for, with_events};
 ghost use Rattle.engine_steps.specs.declared.engines.Phase.TheVariants as phase;
 
 use crate::pieces::act_of;
@@ -36,13 +36,13 @@ use process_disk::Rack;
 use process_journal::{Record, journals_keep_histories};
 use resource_box::Resource;
 use schedule_model::Event;
-use subsystem_store::Effect;
+use store_group::Effects;
 
 // Whether there is an effect at some place.
-fn has_effect(group: &[Option<Effect>]) -> bool
+fn has_effect(group: &[Effects]) -> bool
     ensures { result ≡ has_effect group.now }
 {
-    group.iter().any(Option::is_some)
+    group.iter().any(Effects::has_any)
 }
 
 /// The number of a process fits its bytes.
@@ -83,7 +83,7 @@ fn stage_each<R: Rack + Drop, B: Resource>(files: &mut Files<R, B>, events: &[Ev
 impl<R: Rack + Drop, B: Resource> Engine<R, B> {
     /// Prepares effects, each in the store of its subsystem, with two syncs for all. A crash leaves files that are sound for the
     /// history without them. With no effect it makes no call of the rack.
-    pub fn prepare_group(&mut self, group: &[Option<Effect>]) -> Result<(), DiskFault>
+    pub fn prepare_group(&mut self, group: &[Effects]) -> Result<(), DiskFault>
         requires fits { EachFits B.Resource self.old.files.stores }
         requires settled { self.old.phase ≡ phase.Settled }
         requires may { MayPrepareEach group.now self.old.files.stores }
@@ -119,10 +119,10 @@ impl<R: Rack + Drop, B: Resource> Engine<R, B> {
     /// without them or with all of them.
     pub fn record_group(&mut self, events: &[Event]) -> Result<(), DiskFault>
         requires fits { EachFits B.Resource self.old.files.stores }
-        requires may { (group : List (Option Effect)) × MayBeRecorded self.old (R.disk self.old.files.rack) events.now group }
+        requires may { (group : List (List Effect)) × MayBeRecorded self.old (R.disk self.old.files.rack) events.now group }
         requires events { AreGroupEvents events.now }
         ensures step { LeavesCore self.old self.new result }
-        ensures recorded { (group : List (Option Effect)) → MayBeRecorded self.old (R.disk self.old.files.rack) events.now group →
+        ensures recorded { (group : List (List Effect)) → MayBeRecorded self.old (R.disk self.old.files.rack) events.now group →
             OnOk result (IsGroupRecorded self.new (R.disk self.new.files.rack) group
             (with_events (full_history self.old.core) events.now)) }
         ensures any_moment { Told (R.disk self.old.files.rack)
@@ -148,13 +148,13 @@ impl<R: Rack + Drop, B: Resource> Engine<R, B> {
     /// its events. With no effect it makes no call of the rack.
     pub fn commit_group(&mut self) -> Result<(), DiskFault>
         requires fits { EachFits B.Resource self.old.files.stores }
-        requires recorded { (group : List (Option Effect)) × (h : History)
+        requires recorded { (group : List (List Effect)) × (h : History)
             × IsGroupRecorded self.old (R.disk self.old.files.rack) group h }
         ensures step { LeavesCore self.old self.new result }
-        ensures committed { (group : List (Option Effect)) (h : History)
+        ensures committed { (group : List (List Effect)) (h : History)
             → IsGroupRecorded self.old (R.disk self.old.files.rack) group h →
             OnOk result (IsGroupCommitted self.new (R.disk self.new.files.rack) h) }
-        ensures any_moment { Told (R.disk self.old.files.rack) → (group : List (Option Effect)) (h : History)
+        ensures any_moment { Told (R.disk self.old.files.rack) → (group : List (List Effect)) (h : History)
             → IsGroupRecorded self.old (R.disk self.old.files.rack) group h
             → EachImage (R.disk self.new.files.rack) (R.disk self.old.files.rack).moment (IsSound self.old.catalog h) }
         ensures none { HasNoDoubt self.old.files.stores → self.new ≡ self.old }

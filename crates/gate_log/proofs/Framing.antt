@@ -1,12 +1,10 @@
 -- The bytes of a record in the buffer.
 use Rattle.std.specs.Prelude.{slice_set}
-use Rattle.std.proofs.Common.{◌≡◌, ℕ, ◌+◌, ◌<◌, ◌≤◌, suc, List, [], ◌∷◌, ◌++◌, length, take, drop, Some, refl, sym, ◌∙◌, ap, arith, append_assoc, append-nil, length-append, take-append-drop}
+use Rattle.std.proofs.Common.{◌≡◌, ℕ, ◌+◌, ◌<◌, ◌≤◌, suc, List, [], ◌∷◌, ◌++◌, length, take, drop, refl, sym, ◌∙◌, ap, arith, append_assoc, append-nil, length-append, take-append-drop}
 use Rattle.std.proofs.lemmas.List.{take_at, take-take, take_more_set, length-drop, length-take-le}
 use Rattle.std.proofs.lemmas.Grind.{flat_map-append}
 use Rattle.gate_log.specs.LogFile.{framed}
-use Rattle.gate_log.specs.LogFile.{last_size}
 use Rattle.gate_log.specs.Staging.{plain_records, staged_in}
-use Rattle.gate_log.proofs.Logs.{last_size-push}
 use Rattle.gate_log.proofs.Staging.{plain, plain_size, staged_is, fewer}
 
 -- three bytes, a body and a byte at the front of a buffer
@@ -66,7 +64,7 @@ view_grown bodies body old new items n count staged is bytes =
 pub staged_grown : (bodies : List (List ℕ)) (body old new items : List ℕ) (n count : ℕ) → StagedBytes bodies n count old → items ≡ new → length new ≡ length old → n + (3 + length body) ≤ 65538
     → take (n + (length body + 4)) new ≡ take n old ++ (1 ∷ framed body ++ 0 ∷ [])
     → (length items ≡ 65539) × (n + (3 + length body) ≤ 65538) × (take (n + (3 + length body) + 1) items ≡ plain_records (staged_in (take (n + (3 + length body) + 1) items)))
-    × (count + 1 ≡ length (staged_in (take (n + (3 + length body) + 1) items))) × (Some (length body) ≡ last_size (staged_in (take (n + (3 + length body) + 1) items)))
+    × (count + 1 ≡ length (staged_in (take (n + (3 + length body) + 1) items)))
 staged_grown bodies body old new items n count staged is same room bytes =
     let view = view_grown bodies body old new items n count staged is bytes in
     let all = record_added bodies body old new n (omega (arith, staged.long, staged.room)) staged.are bytes in (
@@ -74,5 +72,4 @@ staged_grown bodies body old new items n count staged is same room bytes =
       room,
       ap (take (n + (3 + length body) + 1)) is ∙ all ∙ ap plain_records (sym view),
       omega (arith, ap length view, length-append bodies (body ∷ []), staged.count),
-      sym (ap last_size view ∙ last_size-push bodies body),
     )

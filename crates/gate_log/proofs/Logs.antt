@@ -1,9 +1,9 @@
 -- Records, and the files that are logs.
-use Rattle.std.proofs.Common.{◌≡◌, ◌≢◌, ℕ, ◌+◌, ◌*◌, ◌^◌, ◌<◌, ◌≤◌, List, [], ◌∷◌, ◌++◌, length, take, get_or, ◌-◌, Option, None, Some, IfSome, All, refl, sym, ◌∙◌, ap, subst, arith, add-one, append_assoc, length-append}
+use Rattle.std.proofs.Common.{◌≡◌, ◌≢◌, ℕ, ◌+◌, ◌*◌, ◌-◌, ◌^◌, ◌<◌, ◌≤◌, List, [], ◌∷◌, ◌++◌, length, take, All, refl, sym, ◌∙◌, ap, subst, arith, append_assoc, length-append}
 use Rattle.std.proofs.lemmas.List.{append-nil, take_at}
 use Rattle.std.proofs.lemmas.List.Elements.{All-head, All-tail, All-take}
-use Rattle.gate_log.specs.LogFile.{AreRecords, header, records_size, end_of, last_size}
-use Rattle.gate_log.specs.Standing.{IsLast}
+use Rattle.gate_log.specs.LogFile.{AreRecords, header, records_size, end_of}
+use Rattle.gate_log.specs.Standing.{LogState, CanRetract, CanRetractLast}
 
 -- how many bytes records take
 pub length-records : (bodies : List (List ℕ)) (opened : List ℕ) → AreRecords bodies opened → length opened ≡ records_size bodies
@@ -25,27 +25,13 @@ records-push (first ∷ bodies) opened gate low high body (g, l, h, rest, first_
     (g, l, h, rest ++ gate ∷ low ∷ high ∷ body, first_open, first_size, ap (λ (o : List ℕ). o ++ gate ∷ low ∷ high ∷ body) is ∙ append_assoc (g ∷ l ∷ h ∷ first) rest (gate ∷ low ∷ high ∷ body), records-push bodies rest gate low high body more is_open size)
 
 -- all that stands before the closed gate
-pub length-before : (q : ℕ) (bodies : List (List ℕ)) (opened : List ℕ) → AreRecords bodies opened → length (header q ++ opened) ≡ end_of bodies
-length-before q bodies opened are = omega (arith, length-records bodies opened are)
+pub length-before : (version q : ℕ) (bodies : List (List ℕ)) (opened : List ℕ) → AreRecords bodies opened → length (header version q ++ opened) ≡ end_of bodies
+length-before version q bodies opened are = omega (arith, length-records bodies opened are)
 
--- the last body's size, with one more
-pub last_size-push : (bodies : List (List ℕ)) (body : List ℕ) → last_size (bodies ++ body ∷ []) ≡ Some (length body)
-last_size-push [] body = refl
-last_size-push (first ∷ []) body = refl
-last_size-push (first ∷ next ∷ bodies) body = last_size-push (next ∷ bodies) body
-
--- bodies whose last has a size end with one of that size
-pub last_of : (bodies : List (List ℕ)) (size : ℕ) → last_size bodies ≡ Some size → (before : List (List ℕ)) × (body : List ℕ) × (bodies ≡ before ++ body ∷ []) × (length body ≡ size)
-last_of [] size is = absurd cc
-last_of (body ∷ []) size is = let same : length body ≡ size = cc in ([], body, refl, same)
-last_of (first ∷ next ∷ bodies) size is =
-    let (before, body, all, same) = last_of (next ∷ bodies) size is in
-    (first ∷ before, body, ap (λ (bs : List (List ℕ)). first ∷ bs) all, same)
-
--- a size that is told is that of the last body
-pub is_last : (last : Option ℕ) (bodies : List (List ℕ)) → last ≡ last_size bodies → IsLast last bodies
-is_last None bodies is = tt
-is_last (Some size) bodies is = sym is
+-- how many bytes the records of both take
+pub records_size-append : (bodies more : List (List ℕ)) → records_size (bodies ++ more) ≡ records_size bodies + records_size more
+records_size-append [] more = omega arith
+records_size-append (body ∷ bodies) more = omega (arith, records_size-append bodies more)
 
 -- how many bytes records take at most, where no body is longer than fits
 pub size_of_short : (bodies : List (List ℕ)) → All (λ body. length body < 2 ^ 16) bodies → records_size bodies ≤ 65538 * length bodies
@@ -54,40 +40,43 @@ size_of_short (body ∷ bodies) short =
     let Short : List ℕ → Type 0 = λ b. length b < 2 ^ 16 in
     omega (arith, All-head Short body bodies short, size_of_short bodies (All-tail Short body bodies short))
 
--- and what that leaves for the last
-pub last_room : (last : Option ℕ) (bodies : List (List ℕ)) (total count : ℕ) → last ≡ last_size bodies → total ≡ records_size bodies → count ≡ length bodies → All (λ body. length body < 2 ^ 16) bodies
-    → IfSome last (λ size. (11 + size ≤ 8 + total) × (1 ≤ count) × (8 + total + 65535 ≤ 8 + 65538 * count + size))
-last_room None bodies total count is total_is count_is short = tt
-last_room (Some size) bodies total count is total_is count_is short =
-    let (before, body, all, same) = last_of bodies size (sym is) in
+-- some bodies are one at least
+pub one_at_least : (bodies : List (List ℕ)) → bodies ≢ [] → 1 ≤ length bodies
+one_at_least [] some = absurd (some refl)
+one_at_least (body ∷ bodies) some = omega arith
+
+-- of records of so many bytes, the last ones can be retracted where those before them fit
+last_of : (log : LogState) (bodies before last : List (List ℕ)) (n size : ℕ) → bodies ≡ before ++ last → last ≢ [] → log.count ≡ n + length bodies → log.end ≡ size + records_size bodies → 8 ≤ size → size ≤ 8 + 65538 * n
+    → records_size before ≤ 65538 * length before → CanRetract (length last) (records_size last) log
+last_of log bodies before last n size is some count at_end above room fits =
+    let number = ap length is ∙ length-append before last in
+    let bytes = ap records_size is ∙ records_size-append before last in
+    let others : log.count - length last ≡ n + length before = omega (arith, count, number) in
+    record {
+      some = one_at_least last some;
+      there = omega (arith, count, number);
+      within = omega (arith, at_end, bytes, above);
+      others = omega (arith, at_end, bytes, others, room, fits);
+    }
+
+-- so it is with those of bodies that fit
+pub last_of_short : (log : LogState) (bodies : List (List ℕ)) → log.count ≡ length bodies → log.end ≡ end_of bodies → All (λ body. length body < 2 ^ 16) bodies → CanRetractLast bodies log
+last_of_short log bodies count at_end short = λ before last is some.
     let Short : List ℕ → Type 0 = λ b. length b < 2 ^ 16 in
-    let front : take (length before) bodies ≡ before = ap (take (length before)) all ∙ take_at before (body ∷ []) (length before) refl in
-    let shorter = size_of_short before (subst (All Short) front (All-take Short (length before) bodies short)) in
-    let sum = total_is ∙ ap records_size all ∙ records_size-push before body in
-    let number = count_is ∙ ap length all ∙ length-append before (body ∷ []) in
-    (omega (arith, sum, same), omega (arith, number), omega (arith, sum, number, same, shorter))
+    let front : take (length before) bodies ≡ before = ap (take (length before)) is ∙ take_at before last (length before) refl in
+    last_of log bodies before last 0 8 is some (omega (arith, count)) at_end (omega arith) (omega arith) (size_of_short before (subst (All Short) front (All-take Short (length before) bodies short)))
 
--- the last body is at the last place
-pub last_at : (bodies : List (List ℕ)) (d : List ℕ) → 1 ≤ length bodies → last_size bodies ≡ Some (length (get_or bodies (length bodies - 1) d))
-last_at [] d some = absurd (omega arith)
-last_at (body ∷ []) d some = refl
-last_at (first ∷ next ∷ bodies) d some =
-    let place : length (first ∷ next ∷ bodies) - 1 ≡ (length (next ∷ bodies) - 1) + 1 = omega arith in
-    last_at (next ∷ bodies) d (omega arith) ∙ rw (place, add-one) refl
+-- records that take no more than one may fit
+fit_together : (bodies : List (List ℕ)) → records_size bodies ≤ 65538 → records_size bodies ≤ 65538 * length bodies
+fit_together [] room = omega arith
+fit_together (body ∷ bodies) room = omega (arith, room)
 
--- what several bodies at once leave for the last
-pub room_with : (last : Option ℕ) (bodies : List (List ℕ)) (end count size number : ℕ) → last ≡ last_size bodies → size ≡ records_size bodies → number ≡ length bodies → size ≤ 65538 → 8 ≤ end → end ≤ 8 + 65538 * count
-    → IfSome last (λ last. (11 + last ≤ end + size) × (1 ≤ count + number) × (end + size + 65535 ≤ 8 + 65538 * (count + number) + last))
-room_with None bodies end count size number is size_is number_is within some room = tt
-room_with (Some last) bodies end count size number is size_is number_is within some room =
-    let (before, body, all, same) = last_of bodies last (sym is) in
-    let sum : size ≡ records_size before + (3 + last) = omega (arith, size_is, ap records_size all, records_size-push before body, same) in
-    let many : number ≡ length before + 1 = omega (arith, number_is, ap length all, length-append before (body ∷ [])) in
-    by_first before sum many
-  where
-    by_first : (before : List (List ℕ)) → size ≡ records_size before + (3 + last) → number ≡ length before + 1 → (11 + last ≤ end + size) × (1 ≤ count + number) × (end + size + 65535 ≤ 8 + 65538 * (count + number) + last)
-    by_first [] sum many = (omega (arith, sum, some), omega (arith, many), omega (arith, sum, many, room))
-    by_first (first ∷ before) sum many = (omega (arith, sum, some), omega (arith, many), omega (arith, within, many, room))
+-- and with those of bodies that were staged together
+pub last_of_staged : (log : LogState) (new : LogState) → new.count ≡ log.count + length log.staged → new.end ≡ log.end + records_size log.staged → 8 ≤ log.end → log.end ≤ 8 + 65538 * log.count → records_size log.staged ≤ 65538
+    → CanRetractLast log.staged new
+last_of_staged log new count at_end above room small = λ before last is some.
+    let bytes = ap records_size is ∙ records_size-append before last in
+    last_of new log.staged before last log.count log.end is some count at_end above room (fit_together before (omega (arith, bytes, small)))
 
 -- and that they fit
 pub end_with : (bodies : List (List ℕ)) (end count size number : ℕ) → bodies ≢ [] → number ≡ length bodies → size ≤ 65538 → end ≤ 8 + 65538 * count → end + size ≤ 8 + 65538 * (count + number)

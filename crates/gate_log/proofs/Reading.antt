@@ -1,12 +1,12 @@
 -- A log's list is what is read from its file.
-use Rattle.std.specs.Prelude.{if◌then◌else◌, nat_le, nat_eq, ◌==◌}
+use Rattle.std.specs.Prelude.{if◌then◌else◌, ◌||◌, nat_le, nat_eq, ◌==◌}
 use Rattle.std.specs.List.{starts_with}
 use Rattle.std.specs.Cmp.Lexicographic.{same_text, other_text}
 use Rattle.std.proofs.Common.{◌≡◌, ◌≢◌, ◌⊎◌, inl, inr, ⊎_elim, ℕ, zero, suc, ◌+◌, ◌-◌, ◌*◌, ◌<◌, ◌≤◌, List, [], ◌∷◌, ◌++◌, length, take, drop, Bool, true, false, Option, Some, None, Result, Ok, Err, refl, sym, ◌∙◌, ap, subst, arith, append_assoc, length-append, take-append-drop}
 use Rattle.std.proofs.lemmas.List.{append-nil, take_at, drop_at, length-take-le}
 use Rattle.std.proofs.lemmas.Bool.{cases_eq, leb-true, le-leb}
 use Rattle.std.proofs.lemmas.Bool.Decides.{nat_tests}
-use Rattle.gate_log.specs.LogFile.{AreRecords, IsLog, header, most_records, after_header, first_body, first_record, is_closed, with_body, none_more, bodies_on, bodies_in, bodies_after, read_log}
+use Rattle.gate_log.specs.LogFile.{AreRecords, IsLog, IsVersion, header, has_header, most_records, after_header, first_body, first_record, is_closed, with_body, none_more, bodies_on, bodies_in, bodies_after, read_log}
 use Rattle.gate_log.specs.Laws.{LogsAreRead, OneListAtMost}
 use Rattle.gate_log.specs.declared.errors.LogError.{LogError}
 use Rattle.gate_log.specs.declared.errors.LogError.TheVariants.{BadRecord}
@@ -145,24 +145,49 @@ records_read (suc room) n (body ∷ bodies) opened free few (gate, low, high, re
     first_record_read (opened ++ 0 ∷ free) body (rest ++ 0 ∷ free) (record { gate = gate; low = low; high = high; is_open = is_open; size = size; is = whole }) in
     ap (bodies_on (bodies_in room (n + 1)) n (opened ++ 0 ∷ free)) first ∙ ap (with_body body) (records_read room (n + 1) bodies rest free (omega (arith, few)) more)
 
+-- the header at a file's front, and what follows it
+record HasHeader (q : ℕ) (file rest : List ℕ) : Type 0 where
+  version : ℕ
+  known : IsVersion version
+  is : file ≡ header version q ++ rest
+
+header_at_front : (version q : ℕ) (file rest : List ℕ) → true ≡ starts_with nat_eq file (header version q) → drop 8 file ≡ rest → file ≡ header version q ++ rest
+header_at_front version q file rest same back =
+    let front : header version q ≡ take 8 file = same_text (header version q) (take 8 file) same in
+    sym (take-append-drop 8 file) ∙ ap (λ (l : List ℕ). l ++ drop 8 file) (sym front) ∙ ap (λ (l : List ℕ). header version q ++ l) back
+
 -- a header that is found stands there
-header_is : (q : ℕ) (file rest : List ℕ) → after_header q file ≡ Some rest → file ≡ header q ++ rest
-header_is q file rest found = by_test (starts_with nat_eq file (header q)) refl found
+header_is : (q : ℕ) (file rest : List ℕ) → after_header q file ≡ Some rest → HasHeader q file rest
+header_is q file rest found = by_tests (starts_with nat_eq file (header 2 q)) (starts_with nat_eq file (header 1 q)) refl refl found
   where
-    by_test : (test : Bool) → test ≡ starts_with nat_eq file (header q) → (if test then Some (drop 8 file) else None) ≡ Some rest → file ≡ header q ++ rest
-    by_test true same is =
-        let front : header q ≡ take 8 file = same_text (header q) (take 8 file) same in
+    by_tests : (two one : Bool) → two ≡ starts_with nat_eq file (header 2 q) → one ≡ starts_with nat_eq file (header 1 q) → (if two || one then Some (drop 8 file) else None) ≡ Some rest → HasHeader q file rest
+    by_tests true one second first is =
         let back : drop 8 file ≡ rest = cc in
-        sym (take-append-drop 8 file) ∙ ap (λ (l : List ℕ). l ++ drop 8 file) (sym front) ∙ ap (λ (l : List ℕ). header q ++ l) back
-    by_test false same is = absurd cc
+        record { version = 2; known = inr refl; is = header_at_front 2 q file rest second back }
+    by_tests false true second first is =
+        let back : drop 8 file ≡ rest = cc in
+        record { version = 1; known = inl refl; is = header_at_front 1 q file rest first back }
+    by_tests false false second first is = absurd cc
+
+begins : (version q : ℕ) (rest : List ℕ) → starts_with nat_eq (header version q ++ rest) (header version q) ≡ true
+begins version q rest = by_test (starts_with nat_eq (header version q ++ rest) (header version q)) refl
+  where
+    by_test : (test : Bool) → test ≡ starts_with nat_eq (header version q ++ rest) (header version q) → starts_with nat_eq (header version q ++ rest) (header version q) ≡ true
+    by_test true same = sym same
+    by_test false same = absurd (other_text (header version q) (take 8 (header version q ++ rest)) same refl)
+
+one_holds : (one two : Bool) → (one ≡ true) ⊎ (two ≡ true) → (one || two) ≡ true
+one_holds true two holds = refl
+one_holds false two (inl is) = absurd cc
+one_holds false two (inr is) = is
 
 -- and one that stands there is found
-header_found : (q : ℕ) (rest : List ℕ) → after_header q (header q ++ rest) ≡ Some rest
-header_found q rest = by_test (starts_with nat_eq (header q ++ rest) (header q)) refl
-  where
-    by_test : (test : Bool) → test ≡ starts_with nat_eq (header q ++ rest) (header q) → (if test then Some (drop 8 (header q ++ rest)) else None) ≡ Some rest
-    by_test true same = refl
-    by_test false same = absurd (other_text (header q) (take 8 (header q ++ rest)) same refl)
+header_found : (version q : ℕ) (rest : List ℕ) → IsVersion version → after_header q (header version q ++ rest) ≡ Some rest
+header_found version q rest known =
+    let file = header version q ++ rest in
+    let front : (v : ℕ) → version ≡ v → starts_with nat_eq file (header v q) ≡ true = λ v is. subst (λ n. starts_with nat_eq file (header n q) ≡ true) is (begins version q rest) in
+    let there : has_header q file ≡ true = one_holds (starts_with nat_eq file (header 2 q)) (starts_with nat_eq file (header 1 q)) (⊎_elim (λ one. inr (front 1 one)) (λ two. inl (front 2 two)) known) in
+    ap (λ (b : Bool). if b then Some (drop 8 file) else None) there
 
 -- a list that is read is the list of the log
 log_of_read : (q : ℕ) (file : List ℕ) (bodies : List (List ℕ)) → read_log q file ≡ Ok bodies → IsLog q bodies file
@@ -172,19 +197,22 @@ log_of_read q file bodies is = by_header (after_header q file) refl is
     by_header None found is = absurd cc
     by_header (Some rest) found is =
         let read = bodies_are most_records 1 rest bodies is in
+        let head = header_is q file rest found in
         record {
           few = read.few;
+          version = head.version;
+          known = head.known;
           opened = read.opened;
           records = read.records;
           free = read.free;
-          is = header_is q file rest found ∙ ap (λ (l : List ℕ). header q ++ l) read.is ∙ sym (append_assoc (header q) read.opened (0 ∷ read.free));
+          is = head.is ∙ ap (λ (l : List ℕ). header head.version q ++ l) read.is ∙ sym (append_assoc (header head.version q) read.opened (0 ∷ read.free));
         }
 
 -- and the list of the log is read
 read_of_log : (q : ℕ) (file : List ℕ) (bodies : List (List ℕ)) → IsLog q bodies file → read_log q file ≡ Ok bodies
 read_of_log q file bodies log =
-    let whole : file ≡ header q ++ (log.opened ++ 0 ∷ log.free) = log.is ∙ append_assoc (header q) log.opened (0 ∷ log.free) in
-    ap (read_log q) whole ∙ ap bodies_after (header_found q (log.opened ++ 0 ∷ log.free)) ∙ records_read most_records 1 bodies log.opened log.free log.few log.records
+    let whole : file ≡ header log.version q ++ (log.opened ++ 0 ∷ log.free) = log.is ∙ append_assoc (header log.version q) log.opened (0 ∷ log.free) in
+    ap (read_log q) whole ∙ ap bodies_after (header_found log.version q (log.opened ++ 0 ∷ log.free) log.known) ∙ records_read most_records 1 bodies log.opened log.free log.few log.records
 
 pub logs_are_read : LogsAreRead
 logs_are_read q bodies file = (read_of_log q file bodies, log_of_read q file bodies)

@@ -1,13 +1,13 @@
 -- What the writes of several bodies leave of a disk.
 use Rattle.std.specs.Prelude.{Result, OnOk}
-use Rattle.std.proofs.Common.{◌≡◌, ◌≢◌, ◌⊎◌, ℕ, ◌+◌, ◌<◌, ◌≤◌, List, [], ◌∷◌, ◌++◌, length, drop, Ok, Err, Option, None, Some, refl, sym, ◌∙◌, ap, subst, arith, append_assoc, length-append}
+use Rattle.std.proofs.Common.{◌≡◌, ◌≢◌, ◌⊎◌, ℕ, ◌+◌, ◌<◌, ◌≤◌, List, [], ◌∷◌, ◌++◌, length, drop, Ok, Err, sym, ◌∙◌, ap, subst, arith, length-append}
 use Rattle.process_disk.specs.Disk.{FileSet, Disk, IsHonest, TornIn, Only, file_of, put, written}
 use Rattle.process_disk.specs.Images.{EachImage, RunBy, AllAsBefore, OthersAsBefore}
 use Rattle.process_disk.proofs.Images.{each_now, now_each, each_later}
-use Rattle.gate_log.specs.LogFile.{IsLog, end_of, records_size, last_size}
-use Rattle.gate_log.specs.Standing.{LogState, Logs, StandsFor, IsLast}
+use Rattle.gate_log.specs.LogFile.{IsLog, end_of}
+use Rattle.gate_log.specs.Standing.{LogState, Logs, StandsFor}
 use Rattle.gate_log.specs.Staging.{plain_records, with_staged, LogsBeforeOrWithAll, HasBehind, AreWritten, AreOnDisk, IsOpened}
-use Rattle.gate_log.proofs.Logs.{last_size-push, last_of}
+use Rattle.gate_log.proofs.Logs.{records_size-append}
 use Rattle.gate_log.proofs.Reading.{most_is}
 use Rattle.gate_log.proofs.Appending.{nine_files, file_of_put, images_of_record}
 use Rattle.gate_log.proofs.Standing.{stands_still}
@@ -44,7 +44,6 @@ staged_written log bodies n old new honest honest_new below some room stands run
       stands = record {
         count = stands.count;
         end = stands.end;
-        last = stands.last;
         read = behind.shut;
         each = each_now new (Logs q bodies) honest_new (λ c image.
             now_each new old.moment (Logs q bodies) honest_new run.follow.later (images_of_record log bodies n old new honest stands run) c image);
@@ -61,7 +60,6 @@ staged_on_disk log bodies old new honest run only were =
       stands = record {
         count = were.stands.count;
         end = were.stands.end;
-        last = were.stands.last;
         read = behind.shut;
         each = each_only (Logs q bodies) new honest only behind.shut;
       };
@@ -94,19 +92,6 @@ gate_opened log bodies old new honest honest_new below are run is =
       each = each_now new P honest_new (λ c image. now_each new old.moment P honest_new run.follow.later (images_of_opening log bodies old new honest are run) c image);
     }
 
--- how many bytes the records of both take
-pub records_size-append : (bodies more : List (List ℕ)) → records_size (bodies ++ more) ≡ records_size bodies + records_size more
-records_size-append [] more = omega arith
-records_size-append (body ∷ bodies) more = omega (arith, records_size-append bodies more)
-
--- the last of more bodies is the last of all
-last_of_all : (last : Option ℕ) (bodies more : List (List ℕ)) → last_size more ≡ last → IsLast last (bodies ++ more)
-last_of_all None bodies more is = tt
-last_of_all (Some size) bodies more is =
-    let (before, body, all, same) = last_of more size is in
-    let whole : bodies ++ more ≡ (bodies ++ before) ++ body ∷ [] = ap (λ (l : List (List ℕ)). bodies ++ l) all ∙ sym (append_assoc bodies before (body ∷ [])) in
-    ap last_size whole ∙ last_size-push (bodies ++ before) body ∙ ap Some same
-
 -- once that is synced, the log stands for all
 pub staged_stands : (log : LogState) (bodies : List (List ℕ)) (old new : Disk) → IsHonest new → AllAsBefore old new → Only new.files new.may_leave → IsOpened log bodies old → StandsFor (with_staged log) (bodies ++ log.staged) new
 staged_stands log bodies old new honest run only is =
@@ -114,7 +99,6 @@ staged_stands log bodies old new honest run only is =
     record {
       count = omega (arith, is.before.0, length-append bodies log.staged);
       end = omega (arith, is.before.1, records_size-append bodies log.staged);
-      last = last_of_all (last_size log.staged) bodies log.staged refl;
       read = logs;
       each = each_only (Logs log.file (bodies ++ log.staged)) new honest only logs;
     }

@@ -1,11 +1,10 @@
 -- What several bodies at once make of a log's file.
 use Rattle.std.proofs.Common.{◌≡◌, ◌≢◌, ◌⊎◌, inl, inr, ℕ, ◌+◌, ◌%◌, ◌/◌, ◌<◌, ◌≤◌, List, [], ◌∷◌, ◌++◌, length, take, drop, get_or, refl, sym, ◌∙◌, ap, subst, arith, append_assoc, length-append, take-append-drop}
-use Rattle.std.specs.Prelude.{IsSome, IsTrue, is_some, ◌↔◌, Bool, true, Option}
 use Rattle.std.specs.List.{flat_map}
 use Rattle.std.proofs.lemmas.List.{drop_more, length-take-le}
 use Rattle.std.proofs.lemmas.Bool.{cases_eq}
 use Rattle.process_disk.specs.Disk.{Torn, written}
-use Rattle.gate_log.specs.LogFile.{AreRecords, IsLog, header, framed, end_of, records_size, last_size, most_records}
+use Rattle.gate_log.specs.LogFile.{AreRecords, IsLog, IsVersion, header, framed, end_of, records_size, most_records}
 use Rattle.gate_log.specs.Staging.{plain_records, bodies_or_none, staged_in, HasBehind}
 use Rattle.gate_log.proofs.Logs.{length-records, length-before}
 use Rattle.gate_log.proofs.Reading.{records_read}
@@ -56,25 +55,26 @@ regroup_opened : (head opened record' rest : List ℕ) → (head ++ opened) ++ (
 regroup_opened head opened record' rest = simp append_assoc
 
 -- a log with whole records behind its closed gate, of which the first has no gate of its own
-pub behind_log : (q : ℕ) (bodies : List (List ℕ)) (body : List ℕ) (more : List (List ℕ)) (file rest : List ℕ) (log : IsLog q bodies file) → length bodies + length (body ∷ more) ≤ most_records
-    → (new : List ℕ) → new ≡ (header q ++ log.opened) ++ 0 ∷ ((framed body ++ plain more) ++ 0 ∷ rest) → HasBehind q bodies (body ∷ more) new
-behind_log q bodies body more file rest log room new is =
-    let tail = framed body ++ plain more in
-    let before = header q ++ log.opened in
+pub behind_log : (version q : ℕ) → IsVersion version → (bodies more : List (List ℕ)) (opened tail rest file : List ℕ) → length bodies + length more ≤ most_records → AreRecords bodies opened → ((gate : ℕ) → 0 < gate → AreRecords more (gate ∷ tail))
+    → file ≡ (header version q ++ opened) ++ 0 ∷ (tail ++ 0 ∷ rest) → HasBehind q bodies more file
+behind_log version q known bodies more opened tail rest file room records behind is =
+    let before = header version q ++ opened in
     let after = tail ++ 0 ∷ rest in
     let end = end_of bodies in
-    let round : Round end before 0 after new = record { length_is = length-before q bodies log.opened log.records; is = is } in
+    let round : Round end before 0 after file = record { length_is = length-before version q bodies opened records; is = is } in
     record {
-      shut = record { few = log.few; opened = log.opened; records = log.records; free = after; is = is };
+      shut = record { few = omega (arith, room); version = version; known = known; opened = opened; records = records; free = after; is = is };
       opens = λ gate is_open. record {
-        few = omega (arith, room, length-append bodies (body ∷ more));
-        opened = log.opened ++ gate ∷ tail;
-        records = records-append bodies (body ∷ more) log.opened (gate ∷ tail) log.records (records_behind gate body more is_open);
+        few = omega (arith, room, length-append bodies more);
+        version = version;
+        known = known;
+        opened = opened ++ gate ∷ tail;
+        records = records-append bodies more opened (gate ∷ tail) records (behind gate is_open);
         free = rest;
-        is = written_at end before 0 after new (gate ∷ []) round
-            ∙ ap (λ (l : List ℕ). before ++ (gate ∷ []) ++ l) (back end before 0 after new round)
+        is = written_at end before 0 after file (gate ∷ []) round
+            ∙ ap (λ (l : List ℕ). before ++ (gate ∷ []) ++ l) (back end before 0 after file round)
             ∙ append_assoc before (gate ∷ []) after
-            ∙ regroup_opened (header q) log.opened (gate ∷ tail) (0 ∷ rest);
+            ∙ regroup_opened (header version q) opened (gate ∷ tail) (0 ∷ rest);
       };
     }
 
@@ -84,17 +84,17 @@ pub behind_by_write : (q : ℕ) (bodies : List (List ℕ)) (more : List (List �
 behind_by_write q bodies [] file some log room = absurd (some refl)
 behind_by_write q bodies (body ∷ more) file some log room =
     let tail = framed body ++ plain more in
-    let before = header q ++ log.opened in
+    let before = header log.version q ++ log.opened in
     let end = end_of bodies in
     let bytes = tail ++ 0 ∷ [] in
     let rest = drop (end + 1 + length bytes) file in
     let is : written file (end + 1) bytes ≡ before ++ 0 ∷ (tail ++ 0 ∷ rest) = ap (λ (l : List ℕ). l ++ bytes ++ rest) (through end before 0 log.free file (gate_of q bodies file log)) ∙ regroup_shut before tail rest in
-    behind_log q bodies body more file rest log room (written file (end + 1) bytes) is
+    behind_log log.version q log.known bodies (body ∷ more) log.opened tail rest (written file (end + 1) bytes) room log.records (λ gate is_open. records_behind gate body more is_open) is
 
 -- a closed gate written over a closed gate changes nothing
 shut_again : (q : ℕ) (bodies : List (List ℕ)) (file : List ℕ) → IsLog q bodies file → written file (end_of bodies) (0 ∷ []) ≡ file
 shut_again q bodies file log =
-    let before = header q ++ log.opened in
+    let before = header log.version q ++ log.opened in
     let end = end_of bodies in
     let round = gate_of q bodies file log in
     written_at end before 0 log.free file (0 ∷ []) round
@@ -114,24 +114,10 @@ pub behind_torn_gate : (q : ℕ) (bodies more : List (List ℕ)) (file c : List 
 behind_torn_gate q bodies more file c behind torn =
     let end = end_of bodies in
     let round = gate_of q bodies file behind.shut in
-    let within : end < length file = omega (arith, ap length round.is, round.length_is, length-append (header q ++ behind.shut.opened) (0 ∷ behind.shut.free)) in
+    let within : end < length file = omega (arith, ap length round.is, round.length_is, length-append (header behind.shut.version q ++ behind.shut.opened) (0 ∷ behind.shut.free)) in
     let is = torn_is_written end file c within torn in
     let gate = get_or c end 0 in
     elim (cases_eq gate 0) [
       | inl shut ↦ inl (subst (IsLog q bodies) (sym (is ∙ ap (λ (g : ℕ). written file end (g ∷ [])) shut ∙ shut_again q bodies file behind.shut)) behind.shut)
       | inr is_open ↦ inr (subst (IsLog q (bodies ++ more)) (sym is) (behind.opens gate (omega arith)))
     ]
-
--- where bodies are staged, the last has a size
-pub some_last : (bodies : List (List ℕ)) → bodies ≢ [] → IsSome (last_size bodies)
-some_last [] some = absurd (some refl)
-some_last (body ∷ []) some = refl
-some_last (body ∷ next ∷ bodies) some = some_last (next ∷ bodies) (λ none. cc)
-
--- a body is staged where the last has a size
-pub has_last : (bodies : List (List ℕ)) (b : Bool) (last : Option ℕ) → b ≡ is_some last → last ≡ last_size bodies → IsTrue b ↔ (bodies ≢ [])
-has_last bodies b last is of = (λ told none. no_last bodies none (sym (is ∙ ap is_some of) ∙ told), λ some. is ∙ ap is_some of ∙ some_last bodies some)
-  where
-    no_last : (bodies : List (List ℕ)) → bodies ≡ [] → is_some (last_size bodies) ≡ true → ⊥
-    no_last [] none told = absurd cc
-    no_last (body ∷ bodies) none told = absurd cc

@@ -4,7 +4,7 @@ use Rattle.process_disk.specs.Disk.{Disk, IsHonest, file_of}
 use Rattle.process_disk.specs.Images.{EachImage, OthersAsBefore}
 use Rattle.process_disk.proofs.Images.{each_now, now_each}
 use Rattle.gate_log.specs.LogFile.{IsLog}
-use Rattle.gate_log.specs.Standing.{LogState, IsLast, Logs, StandsFor, IsOpen}
+use Rattle.gate_log.specs.Standing.{LogState, Logs, StandsFor, IsOpen}
 use Rattle.gate_log.proofs.Reading.{one_list_at_most}
 
 -- a log that stands for a list is open
@@ -29,19 +29,17 @@ pub stands_still : (q : ℕ) (log : LogState) (bodies : List (List ℕ)) (old ne
 stands_still q log bodies old new honest honest_new other run stands = record {
   count = stands.count;
   end = stands.end;
-  last = stands.last;
   read = subst (IsLog log.file bodies) (sym (run.read.others log.file other)) stands.read;
   each = each_now new (Logs log.file bodies) honest_new (λ c image.
       now_each new old.moment (Logs log.file bodies) honest_new run.follow.later (images_still q log bodies old new honest other run stands) c image);
 }
 
 -- whatever is staged, it stands for the same list
-pub stands_alike : (log other : LogState) (bodies : List (List ℕ)) (disk : Disk) → other.file ≡ log.file → other.count ≡ log.count → other.end ≡ log.end → other.last ≡ log.last
+pub stands_alike : (log other : LogState) (bodies : List (List ℕ)) (disk : Disk) → other.file ≡ log.file → other.count ≡ log.count → other.end ≡ log.end
     → StandsFor log bodies disk → StandsFor other bodies disk
-stands_alike log other bodies disk file count end last stands = record {
+stands_alike log other bodies disk file count end stands = record {
   count = count ∙ stands.count;
   end = end ∙ stands.end;
-  last = subst (λ l. IsLast l bodies) (sym last) stands.last;
   read = subst (λ q. Logs q bodies disk.files) (sym file) stands.read;
   each = subst (λ q. EachImage disk disk.moment (Logs q bodies)) (sym file) stands.each;
 }

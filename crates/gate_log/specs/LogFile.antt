@@ -1,5 +1,5 @@
 -- What a file must hold to be the log of a list of bodies, and which list it is the log of.
-use Rattle.std.specs.Prelude.{◌≡◌, ℕ, ◌+◌, ◌*◌, ◌%◌, ◌/◌, ◌<◌, ◌≤◌, List, [], ◌∷◌, ◌++◌, length, take, drop, flat_map, Bool, false}
+use Rattle.std.specs.Prelude.{◌≡◌, ◌⊎◌, ◌||◌, ℕ, ◌+◌, ◌*◌, ◌%◌, ◌/◌, ◌<◌, ◌≤◌, List, [], ◌∷◌, ◌++◌, length, take, drop, flat_map, Bool, false}
 use Rattle.std.specs.Prelude.{nat_le, nat_eq, ◌==◌, if◌then◌else◌, Option, Some, None, Result, Ok, Err}
 use Rattle.std.proofs.Common.{zero, suc}
 use Rattle.std.specs.List.{starts_with}
@@ -10,9 +10,13 @@ use Rattle.gate_log.specs.declared.errors.LogError.TheVariants.{BadHeader, BadRe
 unfoldable pub most_records : ℕ
 most_records = 65536
 
--- the eight bytes of file q's header: `tpsl`, version 1, the file's number and two zeros
-abbrev pub header : ℕ → List ℕ
-header q = 0x74 ∷ 0x70 ∷ 0x73 ∷ 0x6c ∷ 1 ∷ q ∷ 0 ∷ 0 ∷ []
+-- the eight bytes of file q's header: `tpsl`, the version, the file's number and two zeros
+abbrev pub header : ℕ → ℕ → List ℕ
+header version q = 0x74 ∷ 0x70 ∷ 0x73 ∷ 0x6c ∷ version ∷ q ∷ 0 ∷ 0 ∷ []
+
+-- the versions that are read
+abbrev pub IsVersion : ℕ → Type 0
+IsVersion version = (version ≡ 1) ⊎ (version ≡ 2)
 
 -- what stands behind a body's gate: its length as two bytes, the lower first, and itself
 abbrev pub framed : List ℕ → List ℕ
@@ -25,36 +29,36 @@ AreRecords (body ∷ bodies) bytes =
     (gate : ℕ) × (low : ℕ) × (high : ℕ) × (rest : List ℕ) × (0 < gate) × (low + 256 * high ≡ length body)
     × (bytes ≡ gate ∷ low ∷ high ∷ body ++ rest) × AreRecords bodies rest
 
--- the file is the log of these bodies: the header, their records, a closed gate, and then anything
+-- the file is the log of these bodies: the header of a version, their records, a closed gate, and then anything
 pub record IsLog (q : ℕ) (bodies : List (List ℕ)) (file : List ℕ) : Type 0 where
   pub few : length bodies ≤ most_records
+  pub version : ℕ
+  pub known : IsVersion version
   pub opened : List ℕ
   pub records : AreRecords bodies opened
   pub free : List ℕ
-  pub is : file ≡ header q ++ opened ++ 0 ∷ free
+  pub is : file ≡ header version q ++ opened ++ 0 ∷ free
 
--- the file that a log writes of these bodies: each record behind a gate of 1, and nothing behind the closed gate
-abbrev pub plain_log : ℕ → List (List ℕ) → List ℕ
-plain_log q bodies = header q ++ flat_map (λ body. 1 ∷ framed body) bodies ++ 0 ∷ []
+-- the file of a version that a log writes of these bodies: each record behind a gate of 1, and nothing behind the closed gate
+abbrev pub plain_log : ℕ → ℕ → List (List ℕ) → List ℕ
+plain_log version q bodies = header version q ++ flat_map (λ body. 1 ∷ framed body) bodies ++ 0 ∷ []
 
 -- how many bytes the records of these bodies take
 abbrev pub records_size : List (List ℕ) → ℕ
 records_size [] = 0
 records_size (body ∷ bodies) = 3 + length body + records_size bodies
 
--- how many bytes the last body has, if there is one
-abbrev pub last_size : List (List ℕ) → Option ℕ
-last_size [] = None
-last_size (body ∷ []) = Some (length body)
-last_size (body ∷ next ∷ bodies) = last_size (next ∷ bodies)
-
 -- where the closed gate stands
 abbrev pub end_of : List (List ℕ) → ℕ
 end_of bodies = 8 + records_size bodies
 
+-- the file begins with the header of a version that is read
+abbrev pub has_header : ℕ → List ℕ → Bool
+has_header q file = starts_with nat_eq file (header 2 q) || starts_with nat_eq file (header 1 q)
+
 -- what follows the header
 abbrev pub after_header : ℕ → List ℕ → Option (List ℕ)
-after_header q file = if starts_with nat_eq file (header q) then Some (drop 8 file) else None
+after_header q file = if has_header q file then Some (drop 8 file) else None
 
 -- the first body and what follows it, of a length that was read, if so many bytes are there
 abbrev pub first_body : ℕ → List ℕ → Option (List ℕ × List ℕ)

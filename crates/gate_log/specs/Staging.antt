@@ -2,7 +2,7 @@
 use Rattle.std.specs.Prelude.{◌≡◌, ◌⊎◌, ℕ, ◌+◌, ◌<◌, List, [], ◌∷◌, ◌++◌, length, flat_map, Result, Ok, Err}
 use Rattle.process_disk.specs.Disk.{FileSet, Disk, file_of, written}
 use Rattle.process_disk.specs.Images.{EachImage}
-use Rattle.gate_log.specs.LogFile.{IsLog, framed, bodies_in, records_size, last_size, end_of}
+use Rattle.gate_log.specs.LogFile.{IsLog, framed, bodies_in, records_size, end_of}
 use Rattle.gate_log.specs.declared.errors.LogError.{LogError}
 use Rattle.gate_log.specs.Standing.{LogState, Logs, StandsFor}
 
@@ -24,13 +24,16 @@ staging log body = record {
   file = log.file;
   count = log.count;
   end = log.end;
-  last = log.last;
   staged = log.staged ++ body ∷ [];
 }
 
+-- the log with more bodies staged
+abbrev pub staging_all : LogState → List (List ℕ) → LogState
+staging_all log bodies = record { file = log.file; count = log.count; end = log.end; staged = log.staged ++ bodies }
+
 -- the log with nothing staged
 abbrev pub unstaged : LogState → LogState
-unstaged log = record { file = log.file; count = log.count; end = log.end; last = log.last; staged = [] }
+unstaged log = record { file = log.file; count = log.count; end = log.end; staged = [] }
 
 -- the log with all that was staged in its list
 abbrev pub with_staged : LogState → LogState
@@ -38,7 +41,6 @@ with_staged log = record {
   file = log.file;
   count = log.count + length log.staged;
   end = log.end + records_size log.staged;
-  last = last_size log.staged;
   staged = [];
 }
 

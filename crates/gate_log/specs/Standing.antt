@@ -1,29 +1,34 @@
 -- What an open log stands for, on a disk that tells.
-use Rattle.std.specs.Prelude.{◌≡◌, ◌≢◌, ◌⊎◌, ⊤, ℕ, ◌+◌, ◌≤◌, List, [], ◌∷◌, ◌++◌, length}
-use Rattle.std.specs.Prelude.{Option, Some, IsSome, IfSome, Result, Ok, Err, Vec}
+use Rattle.std.specs.Prelude.{◌≡◌, ◌≢◌, ◌⊎◌, ⊤, ℕ, ◌+◌, ◌-◌, ◌*◌, ◌≤◌, List, [], ◌∷◌, ◌++◌, length, Result, Ok, Err, Vec}
 use Rattle.std.specs.declared.alloc.Global.{Global}
 use Rattle.process_disk.specs.Disk.{FileSet, Disk, file_of}
 use Rattle.process_disk.specs.Images.{EachImage}
-use Rattle.gate_log.specs.LogFile.{IsLog, end_of, last_size}
+use Rattle.gate_log.specs.LogFile.{IsLog, end_of, records_size}
 use Rattle.gate_log.specs.declared.errors.LogError.{LogError}
 use Rattle.gate_log.specs.declared.errors.LogError.TheVariants.{DiskFault, BadHeader, BadRecord, NoMemory}
 
--- What a log is seen as: its file, how many records it has, where its closed gate stands, how many bytes the last body has, while
--- it can be retracted, and the bodies that are staged.
+-- What a log is seen as: its file, how many records it has, where its closed gate stands, and the bodies that are staged.
 pub record LogState : Type 0 where
   pub file : ℕ
   pub count : ℕ
   pub end : ℕ
-  pub last : Option ℕ
   pub staged : List (List ℕ)
 
--- the last body can be retracted
-abbrev pub CanRetract : LogState → Type 0
-CanRetract log = IsSome log.last
+-- So many of a log's last records, of so many bytes together, can be retracted: it has them, and the others fit their bytes.
+pub record CanRetract (number size : ℕ) (log : LogState) : Type 0 where
+  pub some : 1 ≤ number
+  pub there : number ≤ log.count
+  pub within : 8 + size ≤ log.end
+  pub others : log.end ≤ 8 + 65538 * (log.count - number) + size
 
--- a last body of so many bytes, if any is told, is the last of these
-abbrev pub IsLast : Option ℕ → List (List ℕ) → Type 0
-IsLast last bodies = IfSome last (λ size. last_size bodies ≡ Some size)
+-- any of the last of these records can be
+abbrev pub CanRetractLast : List (List ℕ) → LogState → Type 0
+CanRetractLast bodies log = (before last : List (List ℕ)) → bodies ≡ before ++ last → last ≢ []
+    → CanRetract (length last) (records_size last) log
+
+-- the log without them
+abbrev pub without : ℕ → ℕ → LogState → LogState
+without number size log = record { file = log.file; count = log.count - number; end = log.end - size; staged = [] }
 
 -- file q of the set is the log of this list
 abbrev pub Logs : ℕ → List (List ℕ) → FileSet → Type 0
@@ -37,7 +42,6 @@ LogsBeforeOrWith q bodies body files = Logs q bodies files ⊎ Logs q (bodies ++
 pub record StandsFor (log : LogState) (bodies : List (List ℕ)) (disk : Disk) : Type 0 where
   pub count : log.count ≡ length bodies
   pub end : log.end ≡ end_of bodies
-  pub last : IsLast log.last bodies
   pub read : Logs log.file bodies disk.files
   pub each : EachImage disk disk.moment (Logs log.file bodies)
 
@@ -46,19 +50,26 @@ pub record IsOpen (log : LogState) (disk : Disk) : Type 0 where
   pub bodies : List (List ℕ)
   pub stands : StandsFor log bodies disk
 
--- A log as it is made or opened: that of file q, with these bodies, the last of which can be retracted, and nothing staged.
+-- It stands for a list whose last records are so many, of so many bytes.
+pub record EndsIn (number size : ℕ) (log : LogState) (disk : Disk) : Type 0 where
+  pub bodies : List (List ℕ)
+  pub last : List (List ℕ)
+  pub stands : StandsFor log (bodies ++ last) disk
+  pub number_is : length last ≡ number
+  pub size_is : records_size last ≡ size
+
+-- A log as it is made or opened: that of file q, with these bodies, any last ones of which can be retracted, and nothing staged.
 pub record IsFreshLog (q : ℕ) (bodies : List (List ℕ)) (log : LogState) : Type 0 where
   pub file : log.file ≡ q
   pub count : log.count ≡ length bodies
   pub few : length bodies ≤ 65536
-  pub last : log.last ≡ last_size bodies
+  pub last : CanRetractLast bodies log
   pub unstaged : log.staged ≡ []
 
--- It has one record more, which can be retracted, and nothing is staged.
+-- It has one record more, and nothing is staged.
 pub record HasOneMore (old new : LogState) : Type 0 where
   pub file : new.file ≡ old.file
   pub count : new.count ≡ old.count + 1
-  pub last : CanRetract new
   pub unstaged : new.staged ≡ []
 
 -- Why a file isn't made what it was to be: no memory was found, and then nothing was written, or a call of the rack failed.

@@ -1,18 +1,19 @@
 // An open log.
-ghost use Rattle.std.specs.Prelude.{◌≡◌, ◌≢◌, ◌<◌, ◌≤◌, ◌+◌, ◌*◌, ◌^◌, ◌++◌, ◌∷◌, [], ℕ, List, length, None, IfOk, IfErr, OnOk};
+ghost use Rattle.std.specs.Prelude.{◌≡◌, ◌≢◌, ◌<◌, ◌≤◌, ◌+◌, ◌*◌, ◌^◌, ◌++◌, ◌∷◌, [], ℕ, List, length, IfOk, IfErr, OnOk};
 ghost use Rattle.std.specs.Prelude.{OnErr, IsErr, IsErrOf, IsTrue, drop, ◌↔◌};
 ghost use Rattle.process_disk.specs.Disk.{Told, TornIn, file_of, put};
 ghost use Rattle.process_disk.specs.Racks.{LeavesRack};
 ghost use Rattle.process_disk.specs.Images.{EachImage, RunBy, OthersAsBefore, AllAsBefore};
-ghost use Rattle.gate_log.specs.LogFile.{read_log, plain_log, records_size, last_size};
-ghost use Rattle.gate_log.specs.Standing.{StandsFor, IsOpen, Logs, LogsBeforeOrWith, OpensAs, CanRetract};
+ghost use Rattle.gate_log.specs.LogFile.{read_log, plain_log, records_size};
+ghost use Rattle.gate_log.specs.Standing.{StandsFor, IsOpen, Logs, LogsBeforeOrWith, OpensAs};
+ghost use Rattle.gate_log.specs.Standing.{CanRetract, CanRetractLast, EndsIn, without};
 ghost use Rattle.gate_log.specs.Standing.{HasOneMore, IsFreshLog, IsUnmade};
 ghost use Rattle.gate_log.specs.Staging.{plain_records, staging, unstaged, with_staged, LogsBeforeOrWithAll, AreWritten};
 ghost use Rattle.gate_log.specs.Staging.{AreOnDisk, IsOpened, MayOpen};
 ghost use Rattle.gate_log.specs.declared.errors.LogError.TheVariants.{NoMemory};
 
 use crate::device::{whole_file, write_and_sync};
-use crate::records::{after_header, bodies_in, first_bytes, last_size};
+use crate::records::{after_header, bodies_in, first_bytes};
 use crate::shared_sync::{sync, write};
 use crate::staged::Staged;
 use crate::{Body, DiskFault, LogError};
@@ -27,21 +28,18 @@ pub struct Log {
     count: u32,
     // where the closed gate stands
     end: u64,
-    // how many bytes the last body has, while it can be retracted
-    last: Option<u32>,
     staged: Staged,
 }
 
 impl Model for Log {
-    ghost use Rattle.std.specs.Prelude.{◌<◌, ◌≤◌, ◌+◌, ◌*◌, length, IfSome};
+    ghost use Rattle.std.specs.Prelude.{◌<◌, ◌≤◌, ◌+◌, ◌*◌, length};
     ghost use Rattle.gate_log.specs.Standing.{LogState};
 
     ghost Value = { LogState };
 
-    ghost view = { λ log. record { file = log.file; count = log.count; end = log.end; last = log.last; staged = log.staged } };
+    ghost view = { λ log. record { file = log.file; count = log.count; end = log.end; staged = log.staged } };
 
     ghost invariant = { λ log. (log.file < 9) × (log.count ≤ 65536) × (log.end ≤ 8 + 65538 * log.count) × (8 ≤ log.end)
-        × IfSome log.last (λ size. (11 + size ≤ log.end) × (1 ≤ log.count) × (log.end + 65535 ≤ 8 + 65538 * log.count + size))
         × (log.count + length log.staged ≤ 65536) };
 }
 
@@ -51,7 +49,7 @@ impl Log {
         requires file { file < 9 }
         requires empty { Told (R.disk rack.old) → file_of (R.disk rack.old).files file ≡ [] }
         ensures stands { Told (R.disk rack.old) → IfOk result (λ log. StandsFor log [] (R.disk rack.new)) }
-        ensures bytes { Told (R.disk rack.old) → IfOk result (λ _. file_of (R.disk rack.new).files file ≡ plain_log file []) }
+        ensures bytes { Told (R.disk rack.old) → IfOk result (λ _. file_of (R.disk rack.new).files file ≡ plain_log 2 file []) }
         ensures log { IfOk result (IsFreshLog file []) }
         ensures others { Told (R.disk rack.old) → OthersAsBefore file (R.disk rack.old) (R.disk rack.new) }
         // Whatever it answers, at most the nine bytes of an empty log were written.
@@ -67,7 +65,6 @@ impl Log {
             file,
             count: 0,
             end: 8,
-            last: None,
             staged,
         })
     }
@@ -97,7 +94,6 @@ impl Log {
             file,
             count: read.bodies.len() as u32,
             end: 8 + read.size as u64,
-            last: last_size(&read.bodies),
             staged,
         };
         Ok((log, read.bodies))
@@ -118,13 +114,14 @@ impl Log {
         ensures acknowledged { Told (R.disk rack.old) → (bodies : List (List ℕ)) → StandsFor self.old bodies (R.disk rack.old) →
             OnOk result (StandsFor self.new (bodies ++ body.now ∷ []) (R.disk rack.new)) }
         // A file as a log writes it stays so.
-        ensures bytes { Told (R.disk rack.old) → (bodies : List (List ℕ)) → StandsFor self.old bodies (R.disk rack.old) →
-            file_of (R.disk rack.old).files self.old.file ≡ plain_log self.old.file bodies →
-            OnOk result (file_of (R.disk rack.new).files self.old.file ≡ plain_log self.old.file (bodies ++ body.now ∷ [])) }
+        ensures bytes { Told (R.disk rack.old) → (version : ℕ) (bodies : List (List ℕ)) → StandsFor self.old bodies (R.disk rack.old) →
+            file_of (R.disk rack.old).files self.old.file ≡ plain_log version self.old.file bodies →
+            OnOk result (file_of (R.disk rack.new).files self.old.file ≡ plain_log version self.old.file (bodies ++ body.now ∷ [])) }
         ensures any_moment { Told (R.disk rack.old) → (bodies : List (List ℕ)) → StandsFor self.old bodies (R.disk rack.old) →
             EachImage (R.disk rack.new) (R.disk rack.old).moment (LogsBeforeOrWith self.old.file bodies body.now) }
         ensures others { Told (R.disk rack.old) → OthersAsBefore self.old.file (R.disk rack.old) (R.disk rack.new) }
         ensures ok { OnOk result (HasOneMore self.old self.new) }
+        ensures last { OnOk result (CanRetract 1 (3 + length body.now) self.new) }
         ensures err { OnErr result (self.new ≡ unstaged self.old) }
         ensures rack { LeavesRack R.Rack rack.old rack.new (IsErr result) }
         ensures quiet { OnOk result (R.faults rack.new ≡ R.faults rack.old) }
@@ -156,7 +153,7 @@ impl Log {
     pub fn has_staged(&self) -> bool
         ensures { IsTrue result ↔ (self.now.staged ≢ []) }
     {
-        self.staged.last().is_some()
+        self.staged.count() > 0
     }
 
     /// Writes what is staged behind the closed gate, and syncs nothing. A crash leaves the list as it was.
@@ -196,11 +193,11 @@ impl Log {
     /// Counts what is staged among the bodies, once its gate is open on the disk.
     pub fn take_staged(&mut self)
         requires staged { self.old.staged ≢ [] }
-        ensures { self.new ≡ with_staged self.old }
+        ensures taken { self.new ≡ with_staged self.old }
+        ensures last { CanRetractLast self.old.staged self.new }
     {
         self.end += self.staged.size() as u64;
         self.count += self.staged.count();
-        self.last = self.staged.last();
         self.staged.clear();
     }
 
@@ -211,13 +208,13 @@ impl Log {
         ensures acknowledged { Told (R.disk rack.old) → (bodies : List (List ℕ)) → StandsFor self.old bodies (R.disk rack.old) →
             OnOk result (StandsFor self.new (bodies ++ self.old.staged) (R.disk rack.new)) }
         // A file as a log writes it stays so.
-        ensures bytes { Told (R.disk rack.old) → (bodies : List (List ℕ)) → StandsFor self.old bodies (R.disk rack.old) →
-            file_of (R.disk rack.old).files self.old.file ≡ plain_log self.old.file bodies →
-            OnOk result (file_of (R.disk rack.new).files self.old.file ≡ plain_log self.old.file (bodies ++ self.old.staged)) }
+        ensures bytes { Told (R.disk rack.old) → (version : ℕ) (bodies : List (List ℕ)) → StandsFor self.old bodies (R.disk rack.old) →
+            file_of (R.disk rack.old).files self.old.file ≡ plain_log version self.old.file bodies →
+            OnOk result (file_of (R.disk rack.new).files self.old.file ≡ plain_log version self.old.file (bodies ++ self.old.staged)) }
         ensures any_moment { Told (R.disk rack.old) → (bodies : List (List ℕ)) → StandsFor self.old bodies (R.disk rack.old) →
             EachImage (R.disk rack.new) (R.disk rack.old).moment (LogsBeforeOrWithAll self.old.file bodies self.old.staged) }
         ensures others { Told (R.disk rack.old) → OthersAsBefore self.old.file (R.disk rack.old) (R.disk rack.new) }
-        ensures ok { OnOk result ((self.new ≡ with_staged self.old) × CanRetract self.new) }
+        ensures ok { OnOk result ((self.new ≡ with_staged self.old) × CanRetractLast self.old.staged self.new) }
         ensures err { OnErr result (self.new ≡ self.old) }
         ensures rack { LeavesRack R.Rack rack.old rack.new (IsErr result) }
         ensures quiet { OnOk result (R.faults rack.new ≡ R.faults rack.old) }
@@ -265,38 +262,31 @@ impl Log {
         sync(rack)
     }
 
-    /// Whether the last body can be retracted: after an append, and after an `open` that found a record, until a `retract`.
-    pub fn can_retract(&self) -> bool
-        ensures { IsTrue result ↔ CanRetract self.now }
-    {
-        self.last.is_some()
-    }
-
-    /// Removes the last body, by closing its gate. A crash leaves the list with it or without.
-    pub fn retract<R: Rack>(&mut self, rack: &mut R) -> Result<(), DiskFault>
-        requires last { CanRetract self.old }
-        requires open { Told (R.disk rack.old) → IsOpen self.old (R.disk rack.old) }
-        ensures acknowledged { Told (R.disk rack.old) → (bodies : List (List ℕ)) (body : List ℕ)
-            → StandsFor self.old (bodies ++ body ∷ []) (R.disk rack.old) →
-            OnOk result (StandsFor self.new bodies (R.disk rack.new)) }
-        ensures any_moment { Told (R.disk rack.old) → (bodies : List (List ℕ)) (body : List ℕ)
-            → StandsFor self.old (bodies ++ body ∷ []) (R.disk rack.old) →
-            EachImage (R.disk rack.new) (R.disk rack.old).moment (LogsBeforeOrWith self.old.file bodies body) }
+    /// Removes so many of the last bodies, whose records have so many bytes, by closing the gate of the first of them. A crash leaves
+    /// the list with all of them or without any.
+    pub fn retract<R: Rack>(
+        &mut self,
+        rack: &mut R,
+        number: u32,
+        size: u64,
+    ) -> Result<(), DiskFault>
+        requires last { CanRetract number size self.old }
+        requires open { Told (R.disk rack.old) → EndsIn number size self.old (R.disk rack.old) }
+        ensures acknowledged { Told (R.disk rack.old) → (bodies last : List (List ℕ)) → length last ≡ number → records_size last ≡ size
+            → StandsFor self.old (bodies ++ last) (R.disk rack.old) → OnOk result (StandsFor self.new bodies (R.disk rack.new)) }
+        ensures any_moment { Told (R.disk rack.old) → (bodies last : List (List ℕ)) → length last ≡ number → records_size last ≡ size
+            → StandsFor self.old (bodies ++ last) (R.disk rack.old) →
+            EachImage (R.disk rack.new) (R.disk rack.old).moment (LogsBeforeOrWithAll self.old.file bodies last) }
         ensures others { Told (R.disk rack.old) → OthersAsBefore self.old.file (R.disk rack.old) (R.disk rack.new) }
-        ensures ok { OnOk result
-            ((self.new.file ≡ self.old.file) × (self.new.count + 1 ≡ self.old.count) × (self.new.last ≡ None)) }
-        ensures unstaged { OnOk result (self.new.staged ≡ []) }
+        ensures ok { OnOk result (self.new ≡ without number size self.old) }
         ensures err { OnErr result (self.new ≡ self.old) }
         ensures rack { LeavesRack R.Rack rack.old rack.new (IsErr result) }
+        ensures quiet { OnOk result (R.faults rack.new ≡ R.faults rack.old) }
     {
-        let Some(size) = self.last else {
-            unreachable!();
-        };
-        let gate = self.end - (3 + u64::from(size));
+        let gate = self.end - size;
         write_and_sync(rack, self.file, gate, &[0])?;
         self.end = gate;
-        self.count -= 1;
-        self.last = None;
+        self.count -= number;
         self.staged.clear();
         Ok(())
     }

@@ -1,8 +1,8 @@
 // The bytes of a log's file.
 ghost use Rattle.std.specs.Prelude.{◌≡◌, ◌≢◌, ◌<◌, ◌≤◌, ◌+◌, ◌*◌, ◌^◌, ◌++◌, ◌∷◌, [], length, None, Some, Ok, Err, IfOk};
-ghost use Rattle.std.specs.Prelude.{IfErr, IfSome, MatchOption, All};
+ghost use Rattle.std.specs.Prelude.{IfErr, IfSome, MatchOption, All, nat_eq};
+ghost use Rattle.std.specs.List.{starts_with};
 ghost use Rattle.gate_log.specs.LogFile.{header, after_header, first_record, is_closed, bodies_in, most_records, records_size};
-ghost use Rattle.gate_log.specs.LogFile.{last_size};
 ghost use Rattle.gate_log.specs.declared.errors.LogError.TheVariants.{NoMemory};
 
 use crate::{Body, LogError};
@@ -11,19 +11,27 @@ use std::alloc::Global;
 /// The most records of a log.
 pub const MOST_RECORDS: usize = 65_536;
 
+/// The version of the files that are made. Those of version 1, which had one effect in doubt at most, are read as well.
+const VERSION: u8 = 2;
+
 /// A header, and a closed gate.
 pub fn first_bytes(file: u8) -> [u8; 9]
-    ensures { result ≡ header file ++ 0 ∷ [] }
+    ensures { result ≡ header 2 file ++ 0 ∷ [] }
 {
-    [0x74, 0x70, 0x73, 0x6c, 1, file, 0, 0, 0]
+    [0x74, 0x70, 0x73, 0x6c, VERSION, file, 0, 0, 0]
+}
+
+fn begins_with(bytes: &[u8], version: u8, file: u8) -> bool
+    ensures { result ≡ starts_with nat_eq bytes.now (header version file) }
+{
+    bytes.starts_with(&[0x74, 0x70, 0x73, 0x6c, version, file, 0, 0])
 }
 
 /// What follows the header of a file.
 pub fn after_header(bytes: &[u8], file: u8) -> Option<&[u8]>
     ensures { MatchOption result (after_header file bytes.now ≡ None) (λ rest. after_header file bytes.now ≡ Some rest.now) }
 {
-    let header = [0x74, 0x70, 0x73, 0x6c, 1, file, 0, 0];
-    if bytes.starts_with(&header) {
+    if begins_with(bytes, VERSION, file) || begins_with(bytes, 1, file) {
         Some(&bytes[8..])
     } else {
         None
@@ -90,16 +98,5 @@ pub fn bodies_in(alloc: Global, bytes: &[u8]) -> Result<Bodies, LogError>
         Ok(Bodies { bodies, size })
     } else {
         Err(LogError::BadRecord(bodies.len() as u32 + 1))
-    }
-}
-
-/// How many bytes the last body has, if there is one.
-pub fn last_size(bodies: &[Body]) -> Option<u32>
-    requires short { All (λ body. length body < 2 ^ 16) bodies.now }
-    ensures size { result ≡ last_size bodies.now }
-{
-    match bodies {
-        [.., body] => Some(body.bytes().len() as u32),
-        [] => None,
     }
 }

@@ -1,6 +1,6 @@
 // The bodies that are staged, as the bytes that are written of them.
 ghost use Rattle.std.specs.Prelude.{◌≡◌, ◌<◌, ◌≤◌, ◌+◌, ◌^◌, ◌++◌, ◌∷◌, [], length, take, drop, IfOk};
-ghost use Rattle.gate_log.specs.LogFile.{framed, records_size, last_size};
+ghost use Rattle.gate_log.specs.LogFile.{framed, records_size};
 ghost use Rattle.gate_log.specs.Staging.{plain_records};
 
 use std::alloc::{AllocError, Global};
@@ -13,7 +13,6 @@ pub struct Staged {
     // how many bytes the records take
     size: usize,
     count: u32,
-    last: Option<u32>,
 }
 
 // the longest record, or as many bytes of shorter ones, and a closed gate
@@ -21,7 +20,6 @@ const SIZE: usize = 1 + 2 + 65_535 + 1;
 
 impl Model for Staged {
     ghost use Rattle.std.specs.Prelude.{◌≡◌, ◌≤◌, ◌+◌, List, ℕ, length, take};
-    ghost use Rattle.gate_log.specs.LogFile.{last_size};
     ghost use Rattle.gate_log.specs.Staging.{plain_records, staged_in};
 
     ghost Value = { List (List ℕ) };
@@ -30,8 +28,7 @@ impl Model for Staged {
 
     ghost invariant = { λ s. (length s.bytes.items ≡ 65539) × (s.size ≤ 65538)
         × (take (s.size + 1) s.bytes.items ≡ plain_records (staged_in (take (s.size + 1) s.bytes.items)))
-        × (s.count ≡ length (staged_in (take (s.size + 1) s.bytes.items)))
-        × (s.last ≡ last_size (staged_in (take (s.size + 1) s.bytes.items))) };
+        × (s.count ≡ length (staged_in (take (s.size + 1) s.bytes.items))) };
 }
 
 // Puts an open gate, a body behind its length, and a closed gate at the front, and says how many bytes they are.
@@ -73,7 +70,6 @@ impl Staged {
             bytes,
             size: 0,
             count: 0,
-            last: None,
         })
     }
 
@@ -85,7 +81,6 @@ impl Staged {
         frame_at(&mut self.bytes, self.size, body);
         self.size += 3 + body.len();
         self.count += 1;
-        self.last = Some(body.len() as u32);
     }
 
     /// Lets all bodies go.
@@ -95,7 +90,6 @@ impl Staged {
         self.bytes[0] = 0;
         self.size = 0;
         self.count = 0;
-        self.last = None;
     }
 
     /// How many bytes the records take.
@@ -111,13 +105,6 @@ impl Staged {
         ensures { result ≡ length self.now }
     {
         self.count
-    }
-
-    /// How many bytes the last body has, if there is one.
-    pub fn last(&self) -> Option<u32>
-        ensures { result ≡ last_size self.now }
-    {
-        self.last
     }
 
     /// All bytes behind the first gate.

@@ -1,17 +1,15 @@
 -- Files that are exactly those of a history are read as its books.
-use Rattle.std.proofs.Common.{◌≡◌, ◌∙◌, ◌<◌, ◌+◌, ◌*◌, ℕ, Bool, true, false, List, [], ◌∷◌, ◌++◌, length, length-append, Option, Some, None, Result, Ok, Err, if◌then◌else◌, arith, refl, ap, subst, sym}
-use Rattle.process_disk.specs.Disk.{FileSet, file_of}
-use Rattle.gate_log.specs.declared.errors.LogError.{LogError}
-use Rattle.gate_log.proofs.Reading.{logs_are_read}
+use Rattle.std.proofs.Common.{◌≡◌, ◌∙◌, ◌<◌, ◌≤◌, ◌+◌, ℕ, Bool, true, false, List, [], ◌∷◌, ◌++◌, append-nil, length, length-append, arith, refl, subst, sym}
+use Rattle.process_disk.specs.Disk.{FileSet}
 use Rattle.schedule_model.specs.declared.history.History.{History}
 use Rattle.commute_table.specs.declared.catalog.Catalog.{Catalog}
 use Rattle.resource_box.specs.declared.call.Kind.{Kind}
 use Rattle.subsystem_store.specs.declared.effect.Effect.{Effect}
-use Rattle.subsystem_store.specs.Bodies.{store_bodies}
-use Rattle.subsystem_store.specs.Laws.{BooksAreReadBack, IsGoodBook, IsReadAs, in_doubt}
-use Rattle.subsystem_store.specs.Opened.{IsStoreOf}
+use Rattle.subsystem_store.specs.Laws.{BooksAreReadBack, ComeInOrder, IsGoodBook, IsReadAs}
+use Rattle.subsystem_store.specs.Order.{most_effects}
 use Rattle.history_files.specs.Effects.{effects}
-use Rattle.history_files.specs.Sound.{IsBookOf, IsSound, counted, is_among, kind_of}
+use Rattle.history_files.specs.Sound.{IsBookOf, IsSound, are_among, counted, kind_of}
+use Rattle.history_files.proofs.Counting.{counts_after}
 use Rattle.engine_steps.specs.Engines.{AreExactly}
 use Rattle.process_top.specs.Values.{ListsAreOfValues}
 
@@ -19,44 +17,30 @@ use Rattle.process_top.specs.Values.{ListsAreOfValues}
 abbrev pub LawsOfBooks : Type 0
 LawsOfBooks = BooksAreReadBack × ListsAreOfValues
 
--- a store has two records of each committed effect, and one of that in doubt
-records : (book : List Effect) (doubt : Option Effect) → length (store_bodies book doubt) ≡ 2 * length book + length (in_doubt doubt)
-records [] None = refl
-records [] (Some e) = refl
-records (e ∷ book) doubt = (let rest = records book doubt in omega (arith, rest))
+-- the first of some effects that come in order do so
+come_first : (kind : Kind) (before book doubt : List Effect) → ComeInOrder kind before (book ++ doubt) → ComeInOrder kind before book
+come_first kind before [] doubt order = tt
+come_first kind before (e ∷ book) doubt order = (order.0, order.1, come_first kind (before ++ e ∷ []) book doubt order.2)
 
-abbrev the_bodies : Result (List (List ℕ)) LogError → List (List ℕ)
-the_bodies (Ok bodies) = bodies
-the_bodies (Err e) = []
+-- effects that come in order, and are few, are a good book with nothing in doubt
+good_alone : (kind : Kind) (book : List Effect) → length book ≤ most_effects → ComeInOrder kind [] book → IsGoodBook kind book []
+good_alone kind book few order =
+    let same = sym (append-nil book) in
+    record { few = subst (λ (b : List Effect). length b ≤ most_effects) same few; order = subst (ComeInOrder kind []) same order }
 
--- a file is the store of as many records
-same_records : (q : ℕ) (one two : List Effect) (doubt : Option Effect) (files : FileSet) → IsStoreOf q one doubt files → IsStoreOf q two None files
-    → 2 * length one + length (in_doubt doubt) ≡ 2 * length two + 0
-same_records q one two doubt files is other =
-    let file = file_of files q in
-    sym (records one doubt)
-    ∙ (ap (λ r. length (the_bodies r)) (sym ((logs_are_read q (store_bodies one doubt) file).0 is) ∙ (logs_are_read q (store_bodies two None) file).0 other) ∙ records two None)
-
--- A book that comes to the effects of which the file is the store is those effects, with nothing in doubt.
-good_effects : (kind : Kind) (q : ℕ) (es book : List Effect) (doubt : Option Effect) (files : FileSet) → IsStoreOf q book doubt files → IsGoodBook kind book doubt → counted es book doubt ≡ es
-    → IsStoreOf q es None files → IsGoodBook kind es None
-good_effects kind q es book None files store good counts exactly = subst (λ b. IsGoodBook kind b None) counts good
-good_effects kind q es book (Some e) files store good counts exactly = by (is_among e es) counts
+-- The effects that a good book comes to are a good book, with nothing in doubt.
+good_effects : (kind : Kind) (es book doubt : List Effect) → IsGoodBook kind book doubt → counted es book doubt ≡ es → IsGoodBook kind es []
+good_effects kind es book doubt good counts = by (are_among doubt es) refl
   where
-    by : (t : Bool) → (if t then book ++ e ∷ [] else book) ≡ es → IsGoodBook kind es None
-    by true is =
-        let more = ap length (sym is) ∙ length-append book (e ∷ []) in
-        let same = same_records q book es (Some e) files store exactly in
-        absurd (omega (arith, more, same))
-    by false is =
-        let as_many = ap length is in
-        let same = same_records q book es (Some e) files store exactly in
-        absurd (omega (arith, as_many, same))
+    by : (t : Bool) → are_among doubt es ≡ t → IsGoodBook kind es []
+    by true among = subst (λ b. IsGoodBook kind b []) (counts_after true es book doubt among counts) (good_alone kind (book ++ doubt) good.few good.order)
+    by false among =
+        subst (λ b. IsGoodBook kind b []) (counts_after false es book doubt among counts)
+        (good_alone kind book (let few = good.few in omega (arith, few, length-append book doubt)) (come_first kind [] book doubt good.order))
 
 -- So each book of such files is read as the effects of the history.
 pub exactly_read : BooksAreReadBack → (c : Catalog) (h : History) (files : FileSet) → IsSound c h files → AreExactly c h files
-    → (q : ℕ) → q < 8 → IsReadAs (kind_of q) (q + 1) (effects c.ops h q) None files
+    → (q : ℕ) → q < 8 → IsReadAs (kind_of q) (q + 1) (effects c.ops h q) [] files
 exactly_read law c h files sound exactly q low =
     let b : IsBookOf (effects c.ops h q) q files = sound.books q low in
-    law (kind_of q) (q + 1) (effects c.ops h q) None files
-    (good_effects (kind_of q) (q + 1) (effects c.ops h q) b.book b.doubt files b.store b.good b.counts (exactly.books q low)) (exactly.books q low)
+    law (kind_of q) (q + 1) (effects c.ops h q) [] files (good_effects (kind_of q) (effects c.ops h q) b.book b.doubt b.good b.counts) (exactly.books q low)

@@ -7,6 +7,10 @@ pub OnOk-then : {T E : Type 0} {P Q : Type 0} → (P → Q) → (r : Result T E)
 OnOk-then f (Ok x) p = f p
 OnOk-then f (Err e) p = p
 
+pub OnErr-then : {T E : Type 0} {P Q : Type 0} → (P → Q) → (r : Result T E) → OnErr r P → OnErr r Q
+OnErr-then f (Ok x) p = p
+OnErr-then f (Err e) p = f p
+
 -- and from two things
 pub OnOk-both : {T E : Type 0} {P Q S : Type 0} → (P → Q → S) → (r : Result T E) → OnOk r P → OnOk r Q → OnOk r S
 OnOk-both f (Ok x) p q = f p q

@@ -1,6 +1,6 @@
 -- What a call on all stores leaves, where the books of before and of after come to the effects of one history.
-use Rattle.std.proofs.Common.{◌≡◌, ◌+◌, ℕ, List, Option, Some, None, true, refl, sym, ◌∙◌, ap, subst, arith}
-use Rattle.std.specs.List.{slice_get}
+use Rattle.std.proofs.Common.{◌≡◌, ◌≢◌, ◌+◌, ℕ, List, [], ◌∷◌, ◌++◌, append-nil, Some, true, false, refl, sym, ◌∙◌, ap, subst, arith}
+use Rattle.std.specs.List.{All, slice_get}
 use Rattle.process_disk.specs.Disk.{Disk, IsHonest, file_of}
 use Rattle.process_disk.specs.Images.{EachImage, RunBy}
 use Rattle.gate_log.specs.LogFile.{IsLog}
@@ -9,20 +9,20 @@ use Rattle.schedule_model.specs.declared.history.History.{History}
 use Rattle.commute_table.specs.declared.catalog.Catalog.{Catalog}
 use Rattle.resource_box.specs.declared.call.Kind.{Kind}
 use Rattle.subsystem_store.specs.declared.effect.Effect.{Effect}
-use Rattle.subsystem_store.specs.Laws.{CommittedIsGood, IsGoodBook, PreparedIsGood}
+use Rattle.subsystem_store.specs.Laws.{CommittedIsGood, FitsItsBytes, IsGoodBook, PreparedIsGood}
 use Rattle.subsystem_store.specs.Opened.{Account, Opened, IsStoreOfEither}
-use Rattle.store_group.specs.Events.{BecomeEach, IsCommitted, IsPrepared, IsUnchanged, MayPrepareEach, doubt_with, book_with, effect_for}
+use Rattle.store_group.specs.Events.{BecomeEach, IsCommitted, IsPrepared, IsUnchanged, MayPrepare, MayPrepareEach, effects_for}
 use Rattle.store_group.specs.Groups.{AllStand, SameButStores}
 use Rattle.store_group.proofs.Beside.{images_beside, stands_beside}
 use Rattle.store_group.proofs.InOrder.{of_became}
 use Rattle.process_journal.specs.Bodies.{journal_bodies}
 use Rattle.history_files.specs.Effects.{effects}
 use Rattle.history_files.specs.Groups.{FitEach, HasEachDoubt, LacksEach}
-use Rattle.history_files.specs.Sound.{IsSound, counted, kind_of}
+use Rattle.history_files.specs.Sound.{IsSound, counted, is_among, kind_of}
 use Rattle.history_files.specs.Standing.{AreGoodBooks, AreStores, Stand}
 use Rattle.history_files.proofs.EndedDoubts.{EndedIsGood, is_due}
 use Rattle.history_files.proofs.OneStore.{MayBe, either_book}
-use Rattle.history_files.proofs.Preparing.{is_ready}
+use Rattle.history_files.proofs.Preparing.{MayCome, good_prepared, is_ready}
 use Rattle.history_files.proofs.SoundImages.{sound_by}
 
 -- the book of each store comes to the effects of the history
@@ -34,7 +34,7 @@ may_be_now c h log stores disk q s are stand at = record {
 }
 
 -- Each image of a call is sound for the history, whichever stores have the book of before and which that of after.
-pub images_of_group : {B : Type 0} (c : Catalog) (h : History) (log : LogState) (stores : List (Opened B)) (old new : Disk) (after : ℕ → Opened B → List Effect × Option Effect)
+pub images_of_group : {B : Type 0} (c : Catalog) (h : History) (log : LogState) (stores : List (Opened B)) (old new : Disk) (after : ℕ → Opened B → List Effect × List Effect)
     → IsHonest old → AreStores stores → log.file ≡ 0 → Stand c h log stores old → RunBy (SameButStores stores) old new
     → ((q : ℕ) (s : Opened B) → slice_get stores q ≡ Some s → MayBe (effects c.ops h q) q (after q s))
     → EachImage new old.moment (λ files. (q : ℕ) (s : Opened B) → slice_get stores q ≡ Some s → IsStoreOfEither s.log.file (s.book, s.doubt) (after q s) files)
@@ -48,7 +48,7 @@ images_of_group {B} c h log stores old new after honest are zero stand run may e
 }
 
 -- After it the files stand for the history, where each store stands for a book that comes to its effects.
-pub stands_with_group : {B : Type 0} (c : Catalog) (h : History) (log : LogState) (stores changed : List (Opened B)) (old new : Disk) (after : ℕ → Opened B → List Effect × Option Effect)
+pub stands_with_group : {B : Type 0} (c : Catalog) (h : History) (log : LogState) (stores changed : List (Opened B)) (old new : Disk) (after : ℕ → Opened B → List Effect × List Effect)
     → IsHonest old → IsHonest new → AreStores stores → log.file ≡ 0 → Stand c h log stores old → RunBy (SameButStores stores) old new
     → ((q : ℕ) (s : Opened B) → slice_get stores q ≡ Some s → MayBe (effects c.ops h q) q (after q s))
     → BecomeEach (λ q s t. (t.kind ≡ s.kind) × (t.book ≡ (after q s).0) × (t.doubt ≡ (after q s).1)) stores changed
@@ -73,33 +73,36 @@ stands_with_group {B} c h log stores changed old new after honest honest_new are
       subst (λ b. counted (effects c.ops h q) b t.doubt ≡ effects c.ops h q) (sym by.1) (subst (λ d. counted (effects c.ops h q) (after q s).0 d ≡ effects c.ops h q) (sym by.2) (may q s at).counts),
     ))
 
--- what a store comes to with its effect prepared, if there is one,
-abbrev pub after_prepare : {B : Type 0} → List (Option Effect) → ℕ → Opened B → List Effect × Option Effect
-after_prepare group q s = (s.book, doubt_with (effect_for group q) s.doubt)
+-- what a store comes to with its effects prepared,
+abbrev pub after_prepare : {B : Type 0} → List (List Effect) → ℕ → Opened B → List Effect × List Effect
+after_prepare group q s = (s.book, s.doubt ++ effects_for group q)
 
--- is a book of the history, which lacks the effect
-pub may_be_prepared : {B : Type 0} → PreparedIsGood → (c : Catalog) (h : History) (log : LogState) (stores : List (Opened B)) (disk : Disk) (group : List (Option Effect)) → AreStores stores → Stand c h log stores disk
+-- what is asked of them
+asked_of : {B : Type 0} (group : List (List Effect)) (stores : List (Opened B)) (q : ℕ) (s : Opened B) (es : List Effect) → slice_get stores q ≡ Some s → FitEach group → MayPrepareEach group stores → effects_for group q ≡ es → es ≢ []
+    → MayCome s.kind s.book s.doubt es
+asked_of {B} group stores q s es at fit may is some =
+    let asked = subst (λ (x : List Effect). x ≢ [] → MayPrepare s x) is (may q s at) some in
+    record { settled = asked.settled; few = asked.few; follow = asked.follow; fit = subst (λ x. All FitsItsBytes x) is (fit q) }
+
+-- is a book of the history, which lacks the effects
+pub may_be_prepared : {B : Type 0} → PreparedIsGood → (c : Catalog) (h : History) (log : LogState) (stores : List (Opened B)) (disk : Disk) (group : List (List Effect)) → AreStores stores → Stand c h log stores disk
     → LacksEach c.ops h group → FitEach group → MayPrepareEach group stores → (q : ℕ) (s : Opened B) → slice_get stores q ≡ Some s → MayBe (effects c.ops h q) q (after_prepare group q s)
-may_be_prepared {B} law c h log stores disk group are stand lacks fit may q s at = by (effect_for group q) refl
+may_be_prepared {B} law c h log stores disk group are stand lacks fit may q s at = by (effects_for group q) refl
   where
-    by : (o : Option Effect) → effect_for group q ≡ o → MayBe (effects c.ops h q) q (s.book, doubt_with o s.doubt)
-    by None is = may_be_now c h log stores disk q s are stand at
-    by (Some e) is =
-        let asked = may q s e at is in
-        (is_ready law c h log stores disk q s e are stand at (lacks q e is) (record { settled = asked.settled; few = asked.few; follows = asked.follows; fits = fit q e is })).after
+    by : (es : List Effect) → effects_for group q ≡ es → MayBe (effects c.ops h q) q (s.book, s.doubt ++ es)
+    by [] is = subst (λ (d : List Effect). MayBe (effects c.ops h q) q (s.book, d)) (sym (append-nil s.doubt)) (may_be_now c h log stores disk q s are stand at)
+    by (e ∷ es) is =
+        is_ready law c h log stores disk q s (e ∷ es) are stand at (subst (λ x. All (λ (y : Effect). is_among y (effects c.ops h q) ≡ false) x) is (lacks q))
+        (asked_of group stores q s (e ∷ es) at fit may is (λ none. absurd cc))
 
 -- with what was in doubt committed
-abbrev pub after_commit : {B : Type 0} → ℕ → Opened B → List Effect × Option Effect
-after_commit q s = (book_with s.book s.doubt, None)
+abbrev pub after_commit : {B : Type 0} → ℕ → Opened B → List Effect × List Effect
+after_commit q s = (s.book ++ s.doubt, [])
 
--- it is a book of the history, which has the effect
+-- it is a book of the history, which has the effects
 pub may_be_committed : {B : Type 0} → EndedIsGood → (c : Catalog) (h : History) (log : LogState) (stores : List (Opened B)) (disk : Disk) → AreStores stores → Stand c h log stores disk
     → HasEachDoubt c.ops h stores → (q : ℕ) (s : Opened B) → slice_get stores q ≡ Some s → MayBe (effects c.ops h q) q (after_commit q s)
-may_be_committed {B} law c h log stores disk are stand has q s at = by s.doubt refl
-  where
-    by : (o : Option Effect) → s.doubt ≡ o → MayBe (effects c.ops h q) q (book_with s.book o, None)
-    by None is = subst (λ (d : Option Effect). MayBe (effects c.ops h q) q (s.book, d)) is (may_be_now c h log stores disk q s are stand at)
-    by (Some e) is = (is_due law true c h log stores disk q s e are stand at (has q) is).after
+may_be_committed law c h log stores disk are stand has q s at = (is_due law true c h log stores disk q s are stand at (has q)).after
 
 -- a store that keeps its file and its kind
 abbrev pub KeepsPlace : {B : Type 0} → Opened B → Opened B → Type 0
@@ -113,14 +116,14 @@ stores_became old new are became = record {
   kind = of_became _ (λ q t. t.kind ≡ kind_of q) old new became (λ q s t at by. by.1 ∙ are.kind q s at);
 }
 
--- as unchanged ones are, and those with an effect prepared or committed
+-- as unchanged ones are, and those with effects prepared or committed
 pub unchanged_keep : {B : Type 0} (old new : List (Opened B)) → BecomeEach (λ q s t. IsUnchanged s t) old new → BecomeEach (λ q s t. KeepsPlace s t) old new
 unchanged_keep old new became = record {
   count = became.count;
   each = λ q s t at_s at_t. let by = became.each q s t at_s at_t in (by.file, ap (λ a. a.kind) by.account);
 }
 
-pub prepared_keep : {B : Type 0} (group : List (Option Effect)) (old new : List (Opened B)) → BecomeEach (λ q s t. IsPrepared (effect_for group q) s t) old new → BecomeEach (λ q s t. KeepsPlace s t) old new
+pub prepared_keep : {B : Type 0} (group : List (List Effect)) (old new : List (Opened B)) → BecomeEach (λ q s t. IsPrepared (effects_for group q) s t) old new → BecomeEach (λ q s t. KeepsPlace s t) old new
 prepared_keep group old new became = record {
   count = became.count;
   each = λ q s t at_s at_t. let by = became.each q s t at_s at_t in (by.file, by.kind);
@@ -138,30 +141,26 @@ good_unchanged old new became good = of_became _ (λ q t. IsGoodBook t.kind t.bo
     subst (λ (a : Account _). IsGoodBook a.kind a.book a.doubt) (sym by.account) (good q s at))
 
 -- the book of a store that has these
-good_of : {B : Type 0} (t : Opened B) (kind : Kind) (book : List Effect) (doubt : Option Effect) → t.kind ≡ kind → t.book ≡ book → t.doubt ≡ doubt → IsGoodBook kind book doubt → IsGoodBook t.kind t.book t.doubt
+good_of : {B : Type 0} (t : Opened B) (kind : Kind) (book : List Effect) (doubt : List Effect) → t.kind ≡ kind → t.book ≡ book → t.doubt ≡ doubt → IsGoodBook kind book doubt → IsGoodBook t.kind t.book t.doubt
 good_of t kind book doubt is_kind is_book is_doubt good =
     subst (λ k. IsGoodBook k t.book t.doubt) (sym is_kind) (subst (λ b. IsGoodBook kind b t.doubt) (sym is_book) (subst (λ d. IsGoodBook kind book d) (sym is_doubt) good))
 
 -- where effects are prepared,
-pub good_with_effects : {B : Type 0} → PreparedIsGood → (group : List (Option Effect)) (old new : List (Opened B)) → FitEach group → MayPrepareEach group old → BecomeEach (λ q s t. IsPrepared (effect_for group q) s t) old new → AreGoodBooks old → AreGoodBooks new
+pub good_with_effects : {B : Type 0} → PreparedIsGood → (group : List (List Effect)) (old new : List (Opened B)) → FitEach group → MayPrepareEach group old → BecomeEach (λ q s t. IsPrepared (effects_for group q) s t) old new → AreGoodBooks old → AreGoodBooks new
 good_with_effects {B} law group old new fit may became good = of_became _ (λ q t. IsGoodBook t.kind t.book t.doubt) old new became (λ q s t at by.
-    good_of t s.kind s.book (doubt_with (effect_for group q) s.doubt) by.kind by.book by.doubt (with q (effect_for group q) refl s at))
+    good_of t s.kind s.book (s.doubt ++ effects_for group q) by.kind by.book by.doubt (with q (effects_for group q) refl s at))
   where
-    with : (q : ℕ) (o : Option Effect) → effect_for group q ≡ o → (s : Opened B) → slice_get old q ≡ Some s → IsGoodBook s.kind s.book (doubt_with o s.doubt)
-    with q None is s at = good q s at
-    with q (Some e) is s at = let asked = may q s e at is in law s.kind s.book e (subst (IsGoodBook s.kind s.book) asked.settled (good q s at)) asked.few (fit q e is) asked.follows
+    with : (q : ℕ) (es : List Effect) → effects_for group q ≡ es → (s : Opened B) → slice_get old q ≡ Some s → IsGoodBook s.kind s.book (s.doubt ++ es)
+    with q [] is s at = subst (IsGoodBook s.kind s.book) (sym (append-nil s.doubt)) (good q s at)
+    with q (e ∷ es) is s at = good_prepared law s.kind s.book s.doubt (e ∷ es) (asked_of group old q s (e ∷ es) at fit may is (λ none. absurd cc)) (good q s at)
 
 -- and where they are committed.
 pub good_with_commits : {B : Type 0} → CommittedIsGood → (old new : List (Opened B)) → BecomeEach (λ q s t. IsCommitted s t) old new → AreGoodBooks old → AreGoodBooks new
 good_with_commits {B} law old new became good = of_became _ (λ q t. IsGoodBook t.kind t.book t.doubt) old new became (λ q s t at by.
-    good_of t s.kind (book_with s.book s.doubt) None by.kind by.book by.doubt (with s.doubt s (good q s at)))
-  where
-    with : (o : Option Effect) (s : Opened B) → IsGoodBook s.kind s.book o → IsGoodBook s.kind (book_with s.book o) None
-    with None s is = is
-    with (Some e) s is = law s.kind s.book e is
+    good_of t s.kind (s.book ++ s.doubt) [] by.kind by.book by.doubt (law s.kind s.book s.doubt (good q s at)))
 
 -- What the steps leave, as the laws on groups ask for it
-pub as_prepared : {B : Type 0} (group : List (Option Effect)) (old new : List (Opened B)) → BecomeEach (λ q s t. IsPrepared (effect_for group q) s t) old new
+pub as_prepared : {B : Type 0} (group : List (List Effect)) (old new : List (Opened B)) → BecomeEach (λ q s t. IsPrepared (effects_for group q) s t) old new
     → BecomeEach (λ q s t. (t.kind ≡ s.kind) × (t.book ≡ (after_prepare group q s).0) × (t.doubt ≡ (after_prepare group q s).1)) old new
 as_prepared group old new became = record { count = became.count; each = λ q s t at_s at_t. let by = became.each q s t at_s at_t in (by.kind, by.book, by.doubt) }
 

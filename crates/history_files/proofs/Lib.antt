@@ -1,4 +1,5 @@
 pub mod Places
+pub mod StandingStores
 pub mod SoundImages
 pub mod OneStore
 pub mod CalledStore

@@ -5,12 +5,12 @@ use Rattle.process_disk.specs.Images.{ImagesFollow, OthersAsBefore}
 use Rattle.process_disk.proofs.Images.{follow_none, follow_then}
 use Rattle.gate_log.specs.Standing.{LogState, StandsFor}
 use Rattle.gate_log.proofs.Standing.{stands_still}
-use Rattle.subsystem_store.specs.Bodies.{store_bodies}
 use Rattle.subsystem_store.specs.Opened.{Opened, Stands}
 use Rattle.std.proofs.lemmas.Option.{slice_get_within, none-some}
 use Rattle.std.proofs.lemmas.List.{length-append}
 use Rattle.history_files.specs.Standing.{AtEach}
 use Rattle.history_files.proofs.Clearing.{each_with}
+use Rattle.history_files.proofs.StandingStores.{store_still}
 
 -- Some stores were made since a moment: they stand, the files of the others are empty, and what stood on file 0 stands still.
 pub record Made {B : Type 0} (start now : Disk) (stores : List (Opened B)) : Type 0 where
@@ -33,7 +33,7 @@ pub made_more : {B : Type 0} (start old new : Disk) (stores : List (Opened B)) (
     → Made start old stores → OthersAsBefore (length stores + 1) old new → Stands s new → Made start new (stores ++ s ∷ [])
 made_more start old new stores s honest honest_new files made others stands = record {
   stand = each_with (λ q x. Stands x new) stores s
-      (λ q x at. stands_still (length stores + 1) x.log (store_bodies x.book x.doubt) old new honest honest_new
+      (λ q x at. store_still (length stores + 1) x old new honest honest_new
       (λ same. absurd (omega (arith, same, files q x at, slice_get_within stores q x at))) others (made.stand q x at))
       stands;
   empty = λ k from within. others.read.others k (λ same. absurd (omega (arith, same, from, length-append stores (s ∷ [])))) ∙ made.empty k (omega (arith, from, length-append stores (s ∷ []))) within;

@@ -1,15 +1,16 @@
 -- What is among effects, and a store at the place of one that was set.
-use Rattle.std.proofs.Common.{◌≡◌, ◌≢◌, ◌⊎◌, inl, inr, ℕ, Bool, true, false, List, [], ◌∷◌, ◌++◌, ◌||◌, refl, ◌∙◌, ap, Some}
+use Rattle.std.proofs.Common.{◌≡◌, ◌≢◌, ◌⊎◌, inl, inr, ℕ, Bool, true, false, List, [], ◌∷◌, ◌++◌, ◌||◌, refl, ◌∙◌, ap, subst, Some}
 use Rattle.std.specs.Prelude.{slice_set}
 use Rattle.std.specs.List.{slice_get, list_any}
-use Rattle.std.proofs.lemmas.Bool.{eq-eqb, or_right}
+use Rattle.std.proofs.lemmas.Bool.{and_from, eq-eqb, or_right}
 use Rattle.std.proofs.lemmas.Cmp.{int_eq_equiv}
 use Rattle.std.proofs.lemmas.List.Folds.{list_any-append}
 use Rattle.commute_table.specs.Bytes.{verb_code}
 use Rattle.resource_box.specs.declared.call.Call.{Call}
 use Rattle.subsystem_store.specs.declared.effect.Effect.{Effect}
 use Rattle.subsystem_store.specs.Values.{same_call}
-use Rattle.history_files.specs.Sound.{is_among, same_effect}
+use Rattle.history_files.specs.Sound.{are_among, is_among, same_effect}
+use Rattle.history_files.proofs.Clearing.{goes_over}
 use Rattle.history_files.proofs.Places.{place_of_set}
 
 -- a call is the same as itself,
@@ -24,9 +25,18 @@ effect_itself e = by e.number e.process e.step e.undo e.call
     by number process step true call = rw (eq-eqb number number refl, eq-eqb process process refl, eq-eqb step step refl) (call_itself call)
     by number process step false call = rw (eq-eqb number number refl, eq-eqb process process refl, eq-eqb step step refl) (call_itself call)
 
--- so the last of some effects is among them,
-pub last_is_among : (es : List Effect) (e : Effect) → is_among e (es ++ e ∷ []) ≡ true
-last_is_among es e = list_any-append (same_effect e) es (e ∷ []) ∙ or_right (list_any (same_effect e) es) (list_any (same_effect e) (e ∷ [])) (ap (λ b. b || false) (effect_itself e))
+-- so one that stands behind some is among them with it,
+is_among_behind : (before : List Effect) (e : Effect) (es : List Effect) → is_among e (before ++ e ∷ es) ≡ true
+is_among_behind before e es =
+    list_any-append (same_effect e) before (e ∷ es)
+    ∙ or_right (list_any (same_effect e) before) (list_any (same_effect e) (e ∷ es)) (ap (λ b. b || list_any (same_effect e) es) (effect_itself e))
+
+-- and so are all that do,
+pub are_among_behind : (before es : List Effect) → are_among es (before ++ es) ≡ true
+are_among_behind before [] = refl
+are_among_behind before (e ∷ es) =
+    and_from (is_among e (before ++ e ∷ es)) (are_among es (before ++ e ∷ es)) (is_among_behind before e es)
+    (subst (λ all. are_among es all ≡ true) (goes_over before es e) (are_among_behind (before ++ e ∷ []) es))
 
 -- a store at the place of one that was set is that one
 pub the_set : {A : Type 0} (xs : List A) (q : ℕ) (y z : A) → slice_get (slice_set xs q y) q ≡ Some z → z ≡ y

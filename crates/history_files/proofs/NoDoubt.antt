@@ -1,6 +1,5 @@
 -- Stores in which nothing is in doubt.
-use Rattle.std.proofs.Common.{◌≡◌, ◌<◌, ℕ, List, Option, Some, None, is_some, Bor, refl, subst}
-use Rattle.std.specs.Prelude.{option_copied}
+use Rattle.std.proofs.Common.{◌≡◌, ◌<◌, ℕ, List, [], ◌++◌, append-nil, Some, refl, sym, ◌∙◌, ap, subst}
 use Rattle.std.specs.List.{slice_get}
 use Rattle.subsystem_store.specs.Opened.{Opened}
 use Rattle.store_group.specs.Events.{BecomeEach, IsCommitted}
@@ -9,15 +8,10 @@ use Rattle.history_files.specs.Groups.{HasNoDoubt}
 
 -- nothing is in doubt in the stores below a place
 abbrev pub NoneBelow : {B : Type 0} → ℕ → List (Opened B) → Type 0
-NoneBelow {B} q stores = (k : ℕ) (s : Opened B) → k < q → slice_get stores k ≡ Some s → s.doubt ≡ None
+NoneBelow {B} q stores = (k : ℕ) (s : Opened B) → k < q → slice_get stores k ≡ Some s → s.doubt ≡ []
 
--- what is copied is there where it was
-pub still_some : {A : Type 0} (o : Option (Bor A)) → is_some (option_copied o) ≡ is_some o
-still_some None = refl
-still_some (Some x) = refl
-
-committed_as_none : {B : Type 0} (s : Opened B) → s.doubt ≡ None → IsCommitted s s
-committed_as_none s none = record { file = refl; kind = refl; book = rw none refl; doubt = none }
+committed_as_none : {B : Type 0} (s : Opened B) → s.doubt ≡ [] → IsCommitted s s
+committed_as_none s none = record { file = refl; kind = refl; book = sym (ap (λ d. s.book ++ d) none ∙ append-nil s.book); doubt = none }
 
 -- where nothing is in doubt stores are committed as they are
 pub none_committed : {B : Type 0} (stores : List (Opened B)) → HasNoDoubt stores → BecomeEach (λ q s t. IsCommitted s t) stores stores

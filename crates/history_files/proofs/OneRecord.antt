@@ -4,10 +4,8 @@ use Rattle.std.specs.List.{slice_get}
 use Rattle.process_disk.specs.Disk.{Disk, FileSet, IsHonest}
 use Rattle.process_disk.specs.Images.{EachImage, OthersAsBefore}
 use Rattle.gate_log.specs.Standing.{LogState}
-use Rattle.gate_log.proofs.Standing.{images_still, stands_still}
 use Rattle.schedule_model.specs.declared.history.History.{History}
 use Rattle.commute_table.specs.declared.catalog.Catalog.{Catalog}
-use Rattle.subsystem_store.specs.Bodies.{store_bodies}
 use Rattle.subsystem_store.specs.Opened.{Opened, IsStoreOf}
 use Rattle.process_journal.specs.Journals.{IsHistoryUnder}
 use Rattle.process_journal.specs.Opened.{Stands, IsJournalOfEither}
@@ -15,6 +13,7 @@ use Rattle.history_files.specs.Effects.{effects}
 use Rattle.history_files.specs.Sound.{IsBookOf, IsSoundForEither}
 use Rattle.history_files.specs.Standing.{AreStores, ComeTo, Stand}
 use Rattle.history_files.proofs.SoundImages.{sound_by, book_by}
+use Rattle.history_files.proofs.StandingStores.{images_of_store_still, store_still}
 
 -- the stores in an image of a record, which come to the effects of this history too
 pub books_beside : {B : Type 0} (c : Catalog) (h k : History) (log : LogState) (stores : List (Opened B)) (old new : Disk)
@@ -22,7 +21,7 @@ pub books_beside : {B : Type 0} (c : Catalog) (h k : History) (log : LogState) (
     → (files : FileSet) → new.left_since old.moment files → (q : ℕ) (s : Opened B) → slice_get stores q ≡ Some s → IsBookOf (effects c.ops k q) q files
 books_beside c h k log stores old new honest are stand others come files left q s at = book_by _ q s files (are.kind q s at) (stand.good q s at) (come q s at)
     (subst (λ n. IsStoreOf n s.book s.doubt files) (are.file q s at)
-    ((images_still 0 s.log (store_bodies s.book s.doubt) old new honest (λ same. absurd (omega (arith, same, are.file q s at))) others (stand.stores q s at)).has files left))
+    ((images_of_store_still 0 s old new honest (λ same. absurd (omega (arith, same, are.file q s at))) others (stand.stores q s at)).has files left))
 
 -- Each image of a record is sound for the history before it or with it.
 pub images_of_record : {B : Type 0} (c : Catalog) (h after : History) (log : LogState) (stores : List (Opened B)) (old new : Disk)
@@ -39,7 +38,7 @@ pub stands_with_record : {B : Type 0} (c : Catalog) (h after : History) (log now
     → IsHonest old → IsHonest new → AreStores stores → Stand c h log stores old → OthersAsBefore 0 old new → ComeTo c.ops after stores → Stands now c after new → Stand c after now stores new
 stands_with_record c h after log now stores old new honest honest_new are stand others come stands = record {
   journal = stands;
-  stores = λ q s at. stands_still 0 s.log (store_bodies s.book s.doubt) old new honest honest_new (λ same. absurd (omega (arith, same, are.file q s at))) others (stand.stores q s at);
+  stores = λ q s at. store_still 0 s old new honest honest_new (λ same. absurd (omega (arith, same, are.file q s at))) others (stand.stores q s at);
   good = stand.good;
   books = come;
 }

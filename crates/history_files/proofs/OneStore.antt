@@ -1,5 +1,5 @@
 -- What a call on one store leaves, where the books of before and of after come to the effects of one history.
-use Rattle.std.proofs.Common.{◌≡◌, ◌≢◌, ◌⊎◌, inl, inr, ◌+◌, ℕ, List, Option, true, false, sym, ◌∙◌, ap, subst, arith, Some}
+use Rattle.std.proofs.Common.{◌≡◌, ◌≢◌, ◌⊎◌, inl, inr, ◌+◌, ℕ, List, true, false, sym, ◌∙◌, ap, subst, arith, Some}
 use Rattle.std.specs.Prelude.{slice_set, nat_eq}
 use Rattle.std.proofs.lemmas.Bool.Decides.{eqb_tells}
 use Rattle.std.specs.List.{slice_get}
@@ -13,7 +13,6 @@ use Rattle.schedule_model.specs.declared.history.History.{History}
 use Rattle.commute_table.specs.declared.catalog.Catalog.{Catalog}
 use Rattle.subsystem_store.specs.declared.effect.Effect.{Effect}
 use Rattle.subsystem_store.specs.Laws.{IsGoodBook}
-use Rattle.subsystem_store.specs.Bodies.{store_bodies}
 use Rattle.subsystem_store.specs.Opened.{Opened, Fits, Stands, IsStoreOf, IsStoreOfEither, account_of}
 use Rattle.process_journal.specs.Bodies.{journal_bodies}
 use Rattle.history_files.specs.Effects.{effects}
@@ -21,20 +20,21 @@ use Rattle.history_files.specs.Sound.{IsBookOf, IsSound, counted, kind_of}
 use Rattle.history_files.specs.Standing.{AreStores, Changes, EachFits, Stand}
 use Rattle.history_files.proofs.Places.{set_each, length-set}
 use Rattle.history_files.proofs.SoundImages.{sound_by, book_by}
+use Rattle.history_files.proofs.StandingStores.{images_of_store_still, store_still}
 
 -- a book, with what is in doubt, that a store may have and that comes to these effects
-pub record MayBe (es : List Effect) (q : ℕ) (b : List Effect × Option Effect) : Type 0 where
+pub record MayBe (es : List Effect) (q : ℕ) (b : List Effect × List Effect) : Type 0 where
   pub good : IsGoodBook (kind_of q) b.0 b.1
   pub counts : counted es b.0 b.1 ≡ es
 
 -- a file of one of two such books is a book of the effects
-pub either_book : (es : List Effect) (q : ℕ) (one two : List Effect × Option Effect) (files : FileSet) → MayBe es q one → MayBe es q two
+pub either_book : (es : List Effect) (q : ℕ) (one two : List Effect × List Effect) (files : FileSet) → MayBe es q one → MayBe es q two
     → IsStoreOfEither (q + 1) one two files → IsBookOf es q files
 either_book es q one two files first second (inl store) = record { book = one.0; doubt = one.1; store = store; good = first.good; counts = first.counts }
 either_book es q one two files first second (inr store) = record { book = two.0; doubt = two.1; store = store; good = second.good; counts = second.counts }
 
 -- Each image of a call on store q is sound for the history, whether it has the book of before or of after.
-pub images_of_store : {B : Type 0} (c : Catalog) (h : History) (log : LogState) (stores : List (Opened B)) (old new : Disk) (q : ℕ) (one two : List Effect × Option Effect)
+pub images_of_store : {B : Type 0} (c : Catalog) (h : History) (log : LogState) (stores : List (Opened B)) (old new : Disk) (q : ℕ) (one two : List Effect × List Effect)
     → IsHonest old → AreStores stores → log.file ≡ 0 → Stand c h log stores old → OthersAsBefore (q + 1) old new
     → MayBe (effects c.ops h q) q one → MayBe (effects c.ops h q) q two → EachImage new old.moment (IsStoreOfEither (q + 1) one two)
     → EachImage new old.moment (IsSound c h)
@@ -51,7 +51,7 @@ images_of_store {B} c h log stores old new q one two honest are is stand others 
         subst (λ n. IsBookOf (effects c.ops h n) n files) (sym here.1) (either_book _ q one two files first second (each.has files left))
     book_of_each files left k s at (inr there) = book_by _ k s files (are.kind k s at) (stand.good k s at) (stand.books k s at)
         (subst (λ n. IsStoreOf n s.book s.doubt files) (are.file k s at)
-        ((images_still (q + 1) s.log (store_bodies s.book s.doubt) old new honest (λ is. there.1 (omega (arith, is, are.file k s at))) others (stand.stores k s at)).has files left))
+        ((images_of_store_still (q + 1) s old new honest (λ is. there.1 (omega (arith, is, are.file k s at))) others (stand.stores k s at)).has files left))
 
 -- After it the files stand for the history, where the store stands for a book that comes to its effects.
 pub stands_with_store : {B : Type 0} (c : Catalog) (h : History) (log : LogState) (stores : List (Opened B)) (old new : Disk) (q : ℕ) (s : Opened B)
@@ -64,7 +64,7 @@ stands_with_store {B} c h log stores old new q s honest honest_new are is stand 
     log = stands_still (q + 1) log (journal_bodies c h) old new honest honest_new (λ same. absurd (omega (arith, same, is))) others stand.journal.log;
   };
   stores = set_each (λ k x. Stands x new) stores q s stands
-      (λ k x other at. stands_still (q + 1) x.log (store_bodies x.book x.doubt) old new honest honest_new (λ same. other (omega (arith, same, are.file k x at))) others (stand.stores k x at));
+      (λ k x other at. store_still (q + 1) x old new honest honest_new (λ same. other (omega (arith, same, are.file k x at))) others (stand.stores k x at));
   good = set_each (λ k x. IsGoodBook x.kind x.book x.doubt) stores q s good (λ k x other at. stand.good k x at);
   books = set_each (λ k x. counted (effects c.ops h k) x.book x.doubt ≡ effects c.ops h k) stores q s counts (λ k x other at. stand.books k x at);
 }

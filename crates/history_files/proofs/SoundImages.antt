@@ -17,6 +17,7 @@ use Rattle.history_files.specs.Effects.{effects}
 use Rattle.history_files.specs.Sound.{IsBookOf, IsSound, counted, kind_of}
 use Rattle.history_files.specs.Standing.{AreStores, Stand}
 use Rattle.history_files.proofs.Places.{place_has}
+use Rattle.history_files.proofs.StandingStores.{store_each, store_read}
 
 -- files are sound where file 0 is the journal of a history and each other file the store of a book that comes to its effects
 pub sound_by : {B : Type 0} (c : Catalog) (h : History) (stores : List (Opened B)) (files : FileSet) → AreStores stores → IsHistoryUnder c h → IsJournalOf c h files
@@ -44,7 +45,7 @@ pub sound_now : {B : Type 0} (c : Catalog) (h : History) (log : LogState) (store
 sound_now c h log stores disk are stand is = sound_by c h stores disk.files are stand.journal.history
     (subst (λ k. IsLog k (journal_bodies c h) (file_of disk.files k)) is stand.journal.log.read)
     (λ q s at. book_by _ q s disk.files (are.kind q s at) (stand.good q s at) (stand.books q s at)
-    (subst (λ k. IsStoreOf k s.book s.doubt disk.files) (are.file q s at) (stand.stores q s at).read))
+    (subst (λ k. IsStoreOf k s.book s.doubt disk.files) (are.file q s at) (store_read s disk (stand.stores q s at))))
 
 -- and each image from now on is.
 pub sound_each : {B : Type 0} (c : Catalog) (h : History) (log : LogState) (stores : List (Opened B)) (disk : Disk) → AreStores stores → Stand c h log stores disk → log.file ≡ 0
@@ -53,5 +54,5 @@ sound_each c h log stores disk are stand is = record {
   has = λ files left. sound_by c h stores files are stand.journal.history
       (subst (λ k. IsLog k (journal_bodies c h) (file_of files k)) is (stand.journal.log.each.has files left))
       (λ q s at. book_by _ q s files (are.kind q s at) (stand.good q s at) (stand.books q s at)
-      (subst (λ k. IsStoreOf k s.book s.doubt files) (are.file q s at) ((stand.stores q s at).each.has files left)));
+      (subst (λ k. IsStoreOf k s.book s.doubt files) (are.file q s at) (store_each s disk files left (stand.stores q s at))));
 }

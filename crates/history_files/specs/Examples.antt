@@ -1,5 +1,5 @@
 -- Worked effects: two steps on subsystem 0 and one on subsystem 4, of which the first is undone.
-use Rattle.std.specs.Prelude.{◌≡◌, ℕ, pos, Bool, true, false, List, [], ◌∷◌, Some, refl}
+use Rattle.std.specs.Prelude.{◌≡◌, ℕ, pos, Bool, true, false, List, [], ◌∷◌, refl}
 use Rattle.process_tree.specs.declared.entry.Entry.{Entry}
 use Rattle.commute_table.specs.declared.op.Op.{Op}
 use Rattle.commute_table.specs.declared.op.Verb.{Verb}
@@ -30,11 +30,18 @@ on_the_counters = refl
 on_the_cells : effects_from ops [] 4 0 schedule ≡ effect 1 2 false Put ∷ []
 on_the_cells = refl
 
--- an effect in doubt counts where it stands among the effects, and only there
+-- effects in doubt count where all of them stand among the effects, and only there
 in_doubt_and_recorded : counted (effect 0 1 false Add ∷ effect 2 1 true Add ∷ []) (effect 0 1 false Add ∷ [])
-    (Some (effect 2 1 true Add)) ≡ effect 0 1 false Add ∷ effect 2 1 true Add ∷ []
+    (effect 2 1 true Add ∷ []) ≡ effect 0 1 false Add ∷ effect 2 1 true Add ∷ []
 in_doubt_and_recorded = refl
 
-in_doubt_and_not_recorded : counted (effect 0 1 false Add ∷ []) (effect 0 1 false Add ∷ []) (Some (effect 2 1 true Add))
+in_doubt_and_not_recorded : counted (effect 0 1 false Add ∷ []) (effect 0 1 false Add ∷ []) (effect 2 1 true Add ∷ [])
     ≡ effect 0 1 false Add ∷ []
 in_doubt_and_not_recorded = refl
+
+two_in_doubt_and_recorded : counted (effect 0 1 false Add ∷ effect 2 1 true Add ∷ []) [] (effect 0 1 false Add ∷ effect 2 1 true Add ∷ [])
+    ≡ effect 0 1 false Add ∷ effect 2 1 true Add ∷ []
+two_in_doubt_and_recorded = refl
+
+one_of_two_recorded : counted (effect 0 1 false Add ∷ []) [] (effect 0 1 false Add ∷ effect 2 1 true Add ∷ []) ≡ []
+one_of_two_recorded = refl

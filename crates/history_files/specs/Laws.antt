@@ -1,5 +1,5 @@
 -- What is proved of the effects of histories.
-use Rattle.std.specs.Prelude.{◌≡◌, ◌≢◌, ◌<◌, ℕ, true, false, List, [], ◌∷◌, ◌++◌, length, None}
+use Rattle.std.specs.Prelude.{◌≡◌, ◌≢◌, ◌<◌, ℕ, true, false, List, [], ◌∷◌, ◌++◌, length}
 use Rattle.process_tree.specs.declared.entry.Entry.{Entry}
 use Rattle.process_tree.specs.declared.plan.Plan.{Plan}
 use Rattle.schedule_model.specs.declared.event.Event.TheVariants.{Act, End}
@@ -10,7 +10,7 @@ use Rattle.commute_table.specs.declared.op.Op.{Op}
 use Rattle.subsystem_store.specs.declared.effect.Effect.{Effect}
 use Rattle.subsystem_store.specs.Bodies.{is_amount}
 use Rattle.subsystem_store.specs.Opened.{Opened}
-use Rattle.subsystem_store.specs.Order.{may_follow}
+use Rattle.subsystem_store.specs.Order.{may_follow, most_effects}
 use Rattle.process_journal.specs.Bodies.{with_event, with_start}
 use Rattle.process_journal.specs.Journals.{IsHistoryUnder}
 use Rattle.history_files.specs.Effects.{effect_of, effects, subsystem_of}
@@ -41,11 +41,11 @@ StartsAddNone = (c : Catalog) (h : History) (i : ℕ) (p : Plan) (q : ℕ) → I
 
 -- nothing is in doubt, and each book has the effects of the history
 abbrev pub AreSettled : {B : Type 0} → List Op → History → List (Opened B) → Type 0
-AreSettled ops h stores = AtEach (λ q s. (s.doubt ≡ None) × (s.book ≡ effects ops h q)) stores
+AreSettled ops h stores = AtEach (λ q s. (s.doubt ≡ []) × (s.book ≡ effects ops h q)) stores
 
 -- What a store is asked of an effect that is prepared.
 pub record MayBePrepared (c : Catalog) (h : History) (e : Entry) (q : ℕ) : Type 0 where
-  pub few : length (effects c.ops h q) < 16384
+  pub few : length (effects c.ops h q) < most_effects
   pub follows : may_follow (kind_of q) (effects c.ops h q) (next_effect c.ops h e) ≡ true
   pub amount : is_amount (next_effect c.ops h e).call.amount ≡ true
 

@@ -1,7 +1,7 @@
 -- Sound files: what nine files must be to be the journal and the books of one history.
-use Rattle.std.specs.Prelude.{◌≡◌, ◌⊎◌, ◌<◌, ◌+◌, ◌&&◌, ◌==◌, ℕ, Bool, true, false, List, [], ◌∷◌, ◌++◌, Option, Some, None, nat_lt}
+use Rattle.std.specs.Prelude.{◌≡◌, ◌⊎◌, ◌<◌, ◌+◌, ◌&&◌, ◌==◌, ℕ, Bool, true, false, List, [], ◌∷◌, ◌++◌, nat_lt}
 use Rattle.std.specs.Prelude.{if◌then◌else◌}
-use Rattle.std.specs.List.{list_any}
+use Rattle.std.specs.List.{list_all, list_any}
 use Rattle.process_disk.specs.Disk.{FileSet}
 use Rattle.schedule_model.specs.declared.history.History.{History}
 use Rattle.commute_table.specs.declared.catalog.Catalog.{Catalog}
@@ -39,10 +39,14 @@ same_effect a b =
 abbrev pub is_among : Effect → List Effect → Bool
 is_among e es = list_any (same_effect e) es
 
--- what a book comes to beside these effects: the committed ones, and the one in doubt where it stands among them
-abbrev pub counted : List Effect → List Effect → Option Effect → List Effect
-counted es book None = book
-counted es book (Some e) = if is_among e es then book ++ e ∷ [] else book
+-- each of some effects stands among these
+abbrev pub are_among : List Effect → List Effect → Bool
+are_among some es = list_all (λ e. is_among e es) some
+
+-- what a book comes to beside these effects: the committed ones, and those in doubt where each of them stands among the effects
+abbrev pub counted : List Effect → List Effect → List Effect → List Effect
+counted es book [] = book
+counted es book (e ∷ doubt) = if are_among (e ∷ doubt) es then book ++ e ∷ doubt else book
 
 -- the values of a book bar an effect: it is forward, and the value at its key bars its call
 abbrev pub is_barred : Kind → List Effect → Effect → Bool
@@ -51,7 +55,7 @@ is_barred kind book e = if e.undo then false else bars kind e.call (value_at (va
 -- File q + 1 of the set is the store of a book that a store of this kind may have, and the book comes to these effects.
 pub record IsBookOf (es : List Effect) (q : ℕ) (files : FileSet) : Type 0 where
   pub book : List Effect
-  pub doubt : Option Effect
+  pub doubt : List Effect
   pub store : IsStoreOf (q + 1) book doubt files
   pub good : IsGoodBook (kind_of q) book doubt
   pub counts : counted es book doubt ≡ es

@@ -1,5 +1,5 @@
 -- What nine files are seen as, and for which history they stand.
-use Rattle.std.specs.Prelude.{◌≡◌, ℕ, ◌+◌, Bool, List, [], length, Some, None, slice_set}
+use Rattle.std.specs.Prelude.{◌≡◌, ℕ, ◌+◌, Bool, List, [], length, Some, slice_set}
 use Rattle.std.specs.List.{slice_get}
 use Rattle.process_disk.specs.Disk.{Disk}
 use Rattle.gate_log.specs.Standing.{LogState}
@@ -7,12 +7,11 @@ use Rattle.resource_box.specs.declared.resource.Resource.{Ghosts as Resources}
 use Rattle.schedule_model.specs.declared.history.History.{History}
 use Rattle.commute_table.specs.declared.catalog.Catalog.{Catalog}
 use Rattle.commute_table.specs.declared.op.Op.{Op}
-use Rattle.subsystem_store.specs.declared.effect.Effect.{Effect}
 use Rattle.subsystem_store.specs.Laws.{IsGoodBook}
 use Rattle.subsystem_store.specs.Opened.{Opened, Fits, account_of, Stands}
 use Rattle.process_journal.specs.Opened.{Stands as JournalStands}
 use Rattle.history_files.specs.Effects.{effects}
-use Rattle.history_files.specs.Sound.{kind_of, counted, is_among}
+use Rattle.history_files.specs.Sound.{are_among, kind_of, counted}
 
 -- What the files are seen as: their rack, the journal, and the stores of the subsystems in order.
 pub record FilesState (R B : Type 0) : Type 0 where
@@ -42,10 +41,9 @@ AreGoodBooks stores = AtEach (λ q s. IsGoodBook s.kind s.book s.doubt) stores
 abbrev pub ComeTo : {B : Type 0} → List Op → History → List (Opened B) → Type 0
 ComeTo ops h stores = AtEach (λ q s. counted (effects ops h q) s.book s.doubt ≡ effects ops h q) stores
 
--- whether the effect in doubt in the store of subsystem q stands among the effects of the history
+-- whether each effect in doubt in the store of subsystem q stands among the effects of the history
 abbrev pub DoubtIs : {B : Type 0} → Bool → List Op → History → ℕ → List (Opened B) → Type 0
-DoubtIs {B} is ops h q stores = (s : Opened B) (e : Effect) → slice_get stores q ≡ Some s → s.doubt ≡ Some e
-    → is_among e (effects ops h q) ≡ is
+DoubtIs {B} is ops h q stores = (s : Opened B) → slice_get stores q ≡ Some s → are_among s.doubt (effects ops h q) ≡ is
 
 -- The store of subsystem q changes so, and the others stay.
 pub record Changes {B : Type 0} (q : ℕ) (step : Opened B → Opened B → Type 0) (old new : List (Opened B)) : Type 0 where
@@ -55,9 +53,9 @@ pub record Changes {B : Type 0} (q : ℕ) (step : Opened B → Opened B → Type
   pub is : new ≡ slice_set old q after
   pub by : step before after
 
--- the effect in doubt is taken back
+-- what is in doubt is taken back
 abbrev pub RollsBack : {B : Type 0} → Opened B → Opened B → Type 0
-RollsBack before after = (after.doubt ≡ None) × (after.book ≡ before.book)
+RollsBack before after = (after.doubt ≡ []) × (after.book ≡ before.book)
 
 -- The files stand for a history: the journal stands for it, each store stands for a book that it may have, and each book comes to
 -- the effects of the history.
@@ -74,7 +72,7 @@ StandForSome log all disk = (c : Catalog) × (h : History) × Stand c h log all 
 -- Files in which nothing has happened: no store has an effect, each box fits the book of its store, and the journal has the one
 -- record of its catalog.
 pub record AreNewFiles {R B : Type 0} (box : Resources B) (f : FilesState R B) : Type 0 where
-  pub unused : AtEach (λ q s. (s.book ≡ []) × (s.doubt ≡ None)) f.stores
+  pub unused : AtEach (λ q s. (s.book ≡ []) × (s.doubt ≡ [])) f.stores
   pub fits : EachFits box f.stores
   pub good : AreGoodBooks f.stores
   pub count : f.journal.count ≡ 1

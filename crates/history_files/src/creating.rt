@@ -13,7 +13,7 @@ ghost use Rattle.history_files.specs.declared.faults.CreateError.TheVariants.{Di
 use crate::boxes::clear_all;
 use crate::faults::of_journal;
 use crate::making::make_stores;
-use crate::{CreateError, CreateRefused, Files, Parts};
+use crate::{CreateError, CreateRefused, FILES, Files, Parts, SUBSYSTEMS};
 use commute_table::Catalog;
 use process_disk::Rack;
 use process_flow::Failed;
@@ -29,7 +29,7 @@ fn first_used<R: Rack>(rack: &mut R) -> Result<Option<u8>, Failed>
     ensures rack { LeavesRack R.Rack rack.old rack.new (IsErr result) }
 {
     let mut file = 0;
-    while file < 9 {
+    while file < FILES {
         if rack.len(file)? > 0 {
             return Ok(Some(file));
         }
@@ -52,7 +52,7 @@ fn made<R: Rack, B: Resource>(
         (λ made. Stand catalog.now no_history made.0 made.1.items (R.disk rack.new)) }
     ensures journal { IfOk result (λ made. (made.0.file ≡ 0) × (made.0.count ≡ 1)) }
     ensures stores { IfOk result (λ made. AreStores made.1.items) }
-    ensures unused { IfOk result (λ made. AtEach (λ q s. (s.book ≡ []) × (s.doubt ≡ None)) made.1.items) }
+    ensures unused { IfOk result (λ made. AtEach (λ q s. (s.book ≡ []) × (s.doubt ≡ [])) made.1.items) }
     ensures fits { IfOk result (λ made. EachFits B.Resource made.1.items) }
     ensures good { IfOk result (λ made. AreGoodBooks made.1.items) }
     ensures boxes { AreInStores B.Resource boxes.new result }
@@ -67,7 +67,7 @@ fn made<R: Rack, B: Resource>(
         Ok(Some(file)) => return Err(CreateError::NotEmpty(file)),
         Err(_) => return Err(CreateError::DiskFault),
     }
-    let Ok(stores) = Vec::with_capacity(alloc, 8) else {
+    let Ok(stores) = Vec::with_capacity(alloc, usize::from(SUBSYSTEMS)) else {
         return Err(CreateError::NoMemory);
     };
     let journal = match Journal::create(alloc, rack, catalog) {

@@ -1,5 +1,5 @@
-// What is in doubt in the stores: whether anything is, and an effect that the history lacks is taken back.
-ghost use Rattle.std.specs.Prelude.{◌≡◌, ◌<◌, Some, OnOk, IsErr, IsSome, false};
+// What is in doubt in the stores: whether anything is, and what the history hasn't all of is taken back.
+ghost use Rattle.std.specs.Prelude.{◌≡◌, ◌≢◌, ◌<◌, [], Some, OnOk, IsErr, false};
 ghost use Rattle.std.specs.List.{slice_get};
 ghost use Rattle.process_disk.specs.Disk.{Told};
 ghost use Rattle.process_disk.specs.Racks.{LeavesImages};
@@ -11,22 +11,22 @@ ghost use Rattle.history_files.specs.Groups.{HasNoDoubt};
 ghost use Rattle.history_files.specs.Sound.{IsSound};
 ghost use Rattle.history_files.specs.Standing.{AreGoodBooks, Changes, DoubtIs, EachFits, RollsBack, Stand, StandForSome};
 
-use crate::Files;
+use crate::{Files, SUBSYSTEMS};
 use gate_log::DiskFault;
 use process_disk::Rack;
 use resource_box::Resource;
 use subsystem_store::calls_make_good_books;
 
 impl<R: Rack + Drop, B: Resource> Files<R, B> {
-    /// Whether an effect is in doubt in the store of some subsystem.
+    /// Whether anything is in doubt in the store of some subsystem.
     pub(crate) fn has_doubt(&self) -> bool
         ensures settled { result ≡ false → HasNoDoubt self.now.stores }
         ensures some { HasNoDoubt self.now.stores → result ≡ false }
     {
         self.stores_hold();
         let mut q = 0;
-        while q < 8 {
-            if self.in_doubt(q).is_some() {
+        while q < SUBSYSTEMS {
+            if !self.in_doubt(q).is_empty() {
                 return true;
             }
             q += 1;
@@ -34,11 +34,11 @@ impl<R: Rack + Drop, B: Resource> Files<R, B> {
         false
     }
 
-    /// Takes back the effect that is in doubt in the store of a subsystem, which the history lacks.
+    /// Takes back all that is in doubt in the store of a subsystem, which the history hasn't all of.
     pub fn roll_back(&mut self, q: u8) -> Result<(), DiskFault>
         requires subsystem { q < 8 }
         requires fits { EachFits B.Resource self.old.stores }
-        requires doubt { (s : Opened B) → slice_get self.old.stores q ≡ Some s → IsSome s.doubt }
+        requires doubt { (s : Opened B) → slice_get self.old.stores q ≡ Some s → s.doubt ≢ [] }
         requires stand { Told (R.disk self.old.rack) → StandForSome self.old.journal self.old.stores (R.disk self.old.rack) }
         ensures acknowledged { Told (R.disk self.old.rack) → (c : Catalog) (h : History)
             → Stand c h self.old.journal self.old.stores (R.disk self.old.rack) →

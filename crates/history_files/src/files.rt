@@ -13,6 +13,12 @@ use resource_box::Resource;
 use std::marker::Model;
 use subsystem_store::Store;
 
+/// How many subsystems there are.
+pub const SUBSYSTEMS: u8 = 8;
+
+/// How many files there are: the journal, and a store for each subsystem.
+pub const FILES: u8 = SUBSYSTEMS + 1;
+
 /// Nine files that stand for a history. After a `DiskFault` they are opened again before any other call.
 #[derive(Drop)]
 pub struct Files<R: Rack + Drop, B: Drop = Box<dyn Resource + Send>> {

@@ -1,5 +1,5 @@
 // The steps of events: prepared, recorded, committed, several at once.
-ghost use Rattle.std.specs.Prelude.{◌≢◌, ◌≤◌, ◌≡◌, ◌<◌, ◌+◌, ◌^◌, [], List, length, map, OnOk, OnErr, IsErr, IsOk, Option, None, false};
+ghost use Rattle.std.specs.Prelude.{◌≢◌, ◌≤◌, ◌≡◌, ◌<◌, ◌+◌, ◌^◌, [], List, length, map, OnOk, OnErr, IsErr, IsOk, false};
 ghost use Rattle.process_disk.specs.Disk.{Told};
 ghost use Rattle.process_disk.specs.Racks.{LeavesImages};
 ghost use Rattle.process_disk.specs.Images.{EachImage};
@@ -13,7 +13,7 @@ ghost use Rattle.process_journal.specs.Journals.{AreMadeBy, IsHistoryUnder, IsMa
 ghost use Rattle.process_journal.specs.Opened.{GoesOn, GoesOnStaged};
 ghost use Rattle.history_files.specs.Sound.{IsSound, IsSoundForEither};
 ghost use Rattle.history_files.specs.Standing.{AreGoodBooks, ComeTo, EachFits, Stand, StandForSome};
-ghost use Rattle.store_group.specs.Events.{BecomeEach, IsUnchanged, IsPrepared, IsCommitted, MayPrepareEach, effect_for};
+ghost use Rattle.store_group.specs.Events.{BecomeEach, IsUnchanged, IsPrepared, IsCommitted, MayPrepareEach, effects_for};
 ghost use Rattle.history_files.specs.Groups.{FitEach, HasEachDoubt, HasNoDoubt, LacksEach};
 
 use crate::Files;
@@ -21,13 +21,13 @@ use gate_log::DiskFault;
 use process_disk::Rack;
 use process_journal::Record;
 use resource_box::Resource;
-use store_group::{commit_each, prepare_each};
-use subsystem_store::{Effect, calls_make_good_books};
+use store_group::{Effects, commit_each, prepare_each};
+use subsystem_store::calls_make_good_books;
 
 impl<R: Rack + Drop, B: Resource> Files<R, B> {
-    /// Prepares the effect at each place, which the history lacks, in the store of that subsystem, with two syncs for all. A crash
+    /// Prepares the effects at each place, which the history lacks, in the store of that subsystem, with two syncs for all. A crash
     /// leaves files that are sound for the history, whichever effects are prepared in them.
-    pub fn prepare_staged(&mut self, group: &[Option<Effect>]) -> Result<(), DiskFault>
+    pub fn prepare_staged(&mut self, group: &[Effects]) -> Result<(), DiskFault>
         requires fits { EachFits B.Resource self.old.stores }
         requires may_come { MayPrepareEach group.now self.old.stores }
         requires bytes { FitEach group.now }
@@ -41,7 +41,7 @@ impl<R: Rack + Drop, B: Resource> Files<R, B> {
         ensures fits { EachFits B.Resource self.new.stores }
         ensures good { AreGoodBooks self.old.stores → AreGoodBooks self.new.stores }
         ensures journal { self.new.journal ≡ self.old.journal }
-        ensures ok { OnOk result (BecomeEach (λ q s t. IsPrepared (effect_for group.now q) s t) self.old.stores self.new.stores) }
+        ensures ok { OnOk result (BecomeEach (λ q s t. IsPrepared (effects_for group.now q) s t) self.old.stores self.new.stores) }
         ensures err { OnErr result (BecomeEach (λ q s t. IsUnchanged s t) self.old.stores self.new.stores) }
         ensures rack { LeavesImages R.Rack self.old.rack self.new.rack (IsErr result) }
     {

@@ -1,5 +1,5 @@
 // What is read of files, and how their boxes are handed back.
-ghost use Rattle.std.specs.Prelude.{◌≡◌, ◌≤◌, ◌<◌, ◌+◌, [], map, Some, option_copied, vec_len, vec_capacity};
+ghost use Rattle.std.specs.Prelude.{◌≡◌, ◌≤◌, ◌<◌, ◌+◌, [], map, Some, vec_len, vec_capacity};
 ghost use Rattle.std.specs.List.{slice_get};
 ghost use Rattle.subsystem_store.specs.Opened.{Opened};
 ghost use Rattle.history_files.specs.Boxes.{AreBoxes};
@@ -32,10 +32,10 @@ impl<R: Rack + Drop, B: Resource> Files<R, B> {
         self.stores[usize::from(q)].book()
     }
 
-    /// The effect that is in doubt in the store of a subsystem, if there is one.
-    pub fn in_doubt(&self, q: u8) -> Option<&Effect>
+    /// The effects that are in doubt in the store of a subsystem, in order.
+    pub fn in_doubt(&self, q: u8) -> &[Effect]
         requires { q < 8 }
-        ensures { (s : Opened B) → slice_get self.now.stores q ≡ Some s → option_copied result ≡ s.doubt }
+        ensures { (s : Opened B) → slice_get self.now.stores q ≡ Some s → result.now ≡ s.doubt }
     {
         self.stores[usize::from(q)].in_doubt()
     }

@@ -25,6 +25,6 @@ mod rooms;
 pub use boxes::{clear_all, put_back};
 pub use effects::{effect_of, subsystem_of};
 pub use faults::{CreateError, CreateRefused};
-pub use files::Files;
+pub use files::{FILES, Files, SUBSYSTEMS};
 pub use laws::{books_come_to_groups, events_add_effects, next_effects_may_be_prepared};
 pub use parts::Parts;

@@ -1,5 +1,5 @@
 // The stores of empty files.
-ghost use Rattle.std.specs.Prelude.{◌≡◌, ◌≢◌, ◌<◌, ◌≤◌, [], ℕ, List, None, IfOk, IfErr, IsErrOf, vec_capacity};
+ghost use Rattle.std.specs.Prelude.{◌≡◌, ◌≢◌, ◌<◌, ◌≤◌, [], ℕ, List, IfOk, IfErr, IsErrOf, vec_capacity};
 ghost use Rattle.process_flow.specs.Causes.{Rose};
 ghost use Rattle.process_disk.specs.Disk.{Told, file_of};
 ghost use Rattle.process_disk.specs.Racks.{LeavesImages};
@@ -29,7 +29,7 @@ pub fn make_stores<R: Rack, B: Resource>(
     requires none { (stores.items ≡ []) × (8 ≤ vec_capacity stores) }
     requires empty { Told (R.disk rack.old) → (k : ℕ) → 1 ≤ k → k < 9 → file_of (R.disk rack.old).files k ≡ [] }
     ensures stores { IfOk result (λ ss. AreStores ss.items) }
-    ensures unused { IfOk result (λ ss. AtEach (λ q s. (s.book ≡ []) × (s.doubt ≡ None)) ss.items) }
+    ensures unused { IfOk result (λ ss. AtEach (λ q s. (s.book ≡ []) × (s.doubt ≡ [])) ss.items) }
     ensures stand { Told (R.disk rack.old) → IfOk result (λ ss. AtEach (λ q s. Stands s (R.disk rack.new)) ss.items) }
     ensures fits { IfOk result (λ ss. EachFits B.Resource ss.items) }
     ensures boxes { AreInStores B.Resource boxes.new result }

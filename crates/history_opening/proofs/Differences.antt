@@ -1,5 +1,5 @@
 -- Lists of effects have no first difference exactly where they are the same.
-use Rattle.std.proofs.Common.{◌≡◌, ◌+◌, ◌&&◌, eqb, ℕ, Bool, true, false, List, [], ◌∷◌, ◌++◌, refl, sym, ◌∙◌, ap, append-nil, Option, Some, None, if◌then◌else◌}
+use Rattle.std.proofs.Common.{◌≡◌, ◌+◌, ◌&&◌, eqb, ℕ, Bool, true, false, List, [], ◌∷◌, refl, sym, ◌∙◌, ap, Some, None, if◌then◌else◌}
 use Rattle.std.proofs.lemmas.Bool.{and_parts, eqb-true, false≢true}
 use Rattle.std.proofs.lemmas.Bool.Decides.{Decides-int_eq}
 use Rattle.std.proofs.lemmas.Option.{none-some}
@@ -10,12 +10,11 @@ use Rattle.commute_table.specs.declared.op.Verb.TheVariants.{Add, Free, Hold, Lo
 use Rattle.resource_box.specs.declared.call.Call.{Call}
 use Rattle.subsystem_store.specs.Bodies.{verb_of}
 use Rattle.subsystem_store.specs.declared.effect.Effect.{Effect}
-use Rattle.subsystem_store.specs.Laws.{in_doubt}
 use Rattle.subsystem_store.specs.Values.{same_call}
-use Rattle.history_files.specs.Sound.{counted, is_among, same_effect}
+use Rattle.history_files.specs.Sound.{same_effect}
 use Rattle.history_files.proofs.NextBooks.{effect_itself}
 use Rattle.history_opening.specs.declared.faults.BookFault.{BookFault}
-use Rattle.history_opening.specs.Comparing.{counting, difference, difference_from}
+use Rattle.history_opening.specs.Comparing.{difference_from}
 
 verb_back : (v : Verb) → verb_of (verb_code v) ≡ v
 verb_back Add = refl
@@ -69,16 +68,3 @@ no_difference q n (x ∷ xs) (y ∷ ys) none = by (same_effect x y) refl (no_dif
 pub none_in_itself : (q n : ℕ) (xs : List Effect) → difference_from q n xs xs ≡ None
 none_in_itself q n [] = refl
 none_in_itself q n (x ∷ xs) = ap (λ b. if b then difference_from q (n + 1) xs xs else Some (record { subsystem = q; at = n; book = Some x; acts = Some x })) (effect_itself x) ∙ none_in_itself q (n + 1) xs
-
--- what a book comes to is the book and the effect in doubt that counts
-pub counted_is : (es book : List Effect) (doubt : Option Effect) → counted es book doubt ≡ book ++ in_doubt (counting es doubt)
-counted_is es book None = sym (append-nil book)
-counted_is es book (Some e) = by (is_among e es)
-  where
-    by : (b : Bool) → (if b then book ++ e ∷ [] else book) ≡ book ++ in_doubt (if b then Some e else None)
-    by true = refl
-    by false = sym (append-nil book)
-
--- so a book without a difference comes to the effects
-pub comes_to : (es book : List Effect) (doubt : Option Effect) (q : ℕ) → difference q (book ++ in_doubt (counting es doubt)) es ≡ None → counted es book doubt ≡ es
-comes_to es book doubt q none = counted_is es book doubt ∙ no_difference q 1 (book ++ in_doubt (counting es doubt)) es none

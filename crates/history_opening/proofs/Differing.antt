@@ -1,5 +1,5 @@
 -- The first of some stores whose book differs from the effects of a history.
-use Rattle.std.proofs.Common.{◌≡◌, ◌<◌, ◌≤◌, ◌+◌, ℕ, zero, suc, true, false, List, [], ◌∷◌, ◌++◌, length, length-append, Option, Some, None, refl, sym, ◌∙◌, ap, subst, arith}
+use Rattle.std.proofs.Common.{◌≡◌, ◌<◌, ◌≤◌, ◌+◌, ℕ, zero, suc, true, false, List, [], ◌∷◌, length, length-append, Option, Some, None, refl, sym, ◌∙◌, ap, subst, arith}
 use Rattle.std.specs.Prelude.{is_some, unwrap_or}
 use Rattle.std.proofs.lemmas.Bool.{false≢true}
 use Rattle.std.specs.List.{slice_get}
@@ -7,14 +7,14 @@ use Rattle.std.proofs.lemmas.Option.{none-some}
 use Rattle.schedule_model.specs.declared.history.History.{History}
 use Rattle.commute_table.specs.declared.op.Op.{Op}
 use Rattle.subsystem_store.specs.declared.effect.Effect.{Effect}
-use Rattle.subsystem_store.specs.Laws.{IsGoodBook, in_doubt}
+use Rattle.subsystem_store.specs.Laws.{IsGoodBook}
 use Rattle.subsystem_store.specs.Opened.{Opened}
 use Rattle.history_files.specs.Effects.{effects}
 use Rattle.history_files.specs.Sound.{counted}
 use Rattle.history_files.specs.Standing.{ComeTo}
 use Rattle.history_opening.specs.declared.faults.BookFault.{BookFault}
-use Rattle.history_opening.specs.Comparing.{book_difference, books_difference, counting, difference, or_else}
-use Rattle.history_opening.proofs.Differences.{counted_is, no_difference, none_in_itself}
+use Rattle.history_opening.specs.Comparing.{book_difference, books_difference, difference, or_else}
+use Rattle.history_opening.proofs.Differences.{no_difference, none_in_itself}
 
 -- the difference of the store at a place, where the first is of subsystem n
 abbrev pub difference_at : {B : Type 0} → List Op → History → ℕ → ℕ → Opened B → Option BookFault
@@ -90,14 +90,14 @@ come_to ops h stores none q s at =
     (subst (λ k. book_difference k (effects ops h k) s.book s.doubt ≡ None) is (none_differ ops h 0 stores none q s at))
 
 -- a book that comes to some effects has no difference from them
-pub same_books : (q : ℕ) (es book : List Effect) (doubt : Option Effect) → counted es book doubt ≡ es → book_difference q es book doubt ≡ None
+pub same_books : (q : ℕ) (es book doubt : List Effect) → counted es book doubt ≡ es → book_difference q es book doubt ≡ None
 same_books q es book doubt comes = ap (λ b. difference q b es) comes ∙ none_in_itself q 1 es
 
 -- the difference of a store from acts that are the effects
 pub found_here : {B : Type 0} (ops : List Op) (h : History) (q : ℕ) (s : Opened B) (acts : List Effect) (found : Option BookFault) → acts ≡ effects ops h q
-    → found ≡ difference q (s.book ++ in_doubt (counting acts s.doubt)) acts → book_difference q (effects ops h q) s.book s.doubt ≡ found
+    → found ≡ book_difference q acts s.book s.doubt → book_difference q (effects ops h q) s.book s.doubt ≡ found
 found_here ops h q s acts found is found_is =
-    ap (λ es. book_difference q es s.book s.doubt) (sym is) ∙ ap (λ b. difference q b acts) (counted_is acts s.book s.doubt) ∙ sym found_is
+    ap (λ es. book_difference q es s.book s.doubt) (sym is) ∙ sym found_is
 
 -- it is that of the stores from there on, if there is one,
 pub found_first : {B : Type 0} (ops : List Op) (h : History) (q : ℕ) (s : Opened B) (rest : List (Opened B)) (found : Option BookFault) → book_difference q (effects ops h q) s.book s.doubt ≡ found
@@ -112,5 +112,5 @@ found_later ops h q s rest None is none = sym (ap (λ d. or_else d (books_differ
 found_later ops h q s rest (Some fault) is none = absurd (false≢true (sym none))
 
 -- a good book is of few effects
-pub few_in_good : {B : Type 0} (s : Opened B) → IsGoodBook s.kind s.book s.doubt → length s.book ≤ 16384
-few_in_good s good = let few = good.few in omega (arith, few, length-append s.book (in_doubt s.doubt))
+pub few_in_good : {B : Type 0} (s : Opened B) → IsGoodBook s.kind s.book s.doubt → length s.book + length s.doubt ≤ 16384
+few_in_good s good = let few = good.few in omega (arith, few, length-append s.book s.doubt)

@@ -4,9 +4,7 @@ use Rattle.std.specs.Prelude.{Ok}
 use Rattle.process_disk.specs.Disk.{Disk, IsHonest, file_of}
 use Rattle.process_disk.specs.Images.{AllAsBefore}
 use Rattle.process_disk.proofs.Images.{all_then, others_of_all, run_none}
-use Rattle.gate_log.proofs.Standing.{stands_still}
 use Rattle.resource_box.specs.declared.call.Kind.{Kind}
-use Rattle.subsystem_store.specs.Bodies.{store_bodies}
 use Rattle.subsystem_store.specs.Opened.{Opened, Stands}
 use Rattle.subsystem_store.specs.Order.{Book, read_store}
 use Rattle.subsystem_store.specs.Answers.{RefusedAs}
@@ -16,6 +14,7 @@ use Rattle.history_files.specs.Sound.{kind_of}
 use Rattle.history_files.specs.Standing.{AtEach}
 use Rattle.history_files.proofs.Clearing.{each_with}
 use Rattle.history_files.proofs.Places.{place_has}
+use Rattle.history_files.proofs.StandingStores.{store_still}
 use Rattle.history_opening.specs.Opening.{book_in}
 
 -- Some stores were opened since a moment: they stand, they are what was read, and nothing was written.
@@ -49,7 +48,7 @@ pub read_more : {B : Type 0} (start old new : Disk) (stores : List (Opened B)) (
     → Read start old stores → AllAsBefore old new → Stands s new → book_in start.files (length stores) ≡ Ok (record { book = s.book; doubt = s.doubt }) → Read start new (stores ++ s ∷ [])
 read_more start old new stores s honest honest_new files read all stands is = record {
   stand = each_with (λ q x. Stands x new) stores s
-      (λ q x at. stands_still 0 x.log (store_bodies x.book x.doubt) old new honest honest_new (λ same. absurd (omega (arith, same, files q x at))) (others_of_all 0 old new all) (read.stand q x at))
+      (λ q x at. store_still 0 x old new honest honest_new (λ same. absurd (omega (arith, same, files q x at))) (others_of_all 0 old new all) (read.stand q x at))
       stands;
   read = each_with (λ q x. book_in start.files q ≡ Ok (record { book = x.book; doubt = x.doubt })) stores s read.read is;
   all = all_then start old new honest honest_new read.all all;

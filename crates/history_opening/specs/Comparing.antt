@@ -5,7 +5,7 @@ use Rattle.subsystem_store.specs.Opened.{Opened}
 use Rattle.schedule_model.specs.declared.history.History.{History}
 use Rattle.commute_table.specs.declared.op.Op.{Op}
 use Rattle.history_files.specs.Effects.{effects}
-use Rattle.history_files.specs.Sound.{counted, is_among, same_effect}
+use Rattle.history_files.specs.Sound.{counted, same_effect}
 use Rattle.history_opening.specs.declared.faults.BookFault.{BookFault}
 
 -- the first difference of two lists whose first effects have place n, in subsystem q
@@ -20,13 +20,8 @@ difference_from q n (b ∷ book) (e ∷ es) = if same_effect b e then difference
 abbrev pub difference : ℕ → List Effect → List Effect → Option BookFault
 difference q book es = difference_from q 1 book es
 
--- the effect in doubt, where it stands among these
-abbrev pub counting : List Effect → Option Effect → Option Effect
-counting es None = None
-counting es (Some e) = if is_among e es then Some e else None
-
 -- where what a book comes to differs first from these effects
-abbrev pub book_difference : ℕ → List Effect → List Effect → Option Effect → Option BookFault
+abbrev pub book_difference : ℕ → List Effect → List Effect → List Effect → Option BookFault
 book_difference q es book doubt = difference q (counted es book doubt) es
 
 -- the first that is something

@@ -1,10 +1,9 @@
 // Books beside the effects of a history.
-ghost use Rattle.std.specs.Prelude.{◌≡◌, ◌<◌, ◌+◌, ◌++◌, ◌^◌, [], length, IfOk, option_copied};
+ghost use Rattle.std.specs.Prelude.{◌≡◌, ◌<◌, ◌+◌, ◌^◌, [], length, IfOk};
 ghost use Rattle.schedule_model.specs.Histories.{acts};
-ghost use Rattle.subsystem_store.specs.Laws.{in_doubt};
-ghost use Rattle.history_files.specs.Sound.{same_effect, is_among};
+ghost use Rattle.history_files.specs.Sound.{are_among, counted, is_among, same_effect};
 ghost use Rattle.history_files.specs.Standing.{AreGoodBooks};
-ghost use Rattle.history_opening.specs.Comparing.{difference_from, difference, counting, books_difference};
+ghost use Rattle.history_opening.specs.Comparing.{book_difference, books_difference, difference, difference_from};
 
 use crate::BookFault;
 use crate::effects::effects_on;
@@ -33,6 +32,13 @@ pub fn is_among(effect: &Effect, effects: &[Effect]) -> bool
     effects.iter().any(|other| same_effect(effect, other))
 }
 
+// Whether each of some effects stands among these.
+fn are_among(some: &[Effect], effects: &[Effect]) -> bool
+    ensures { result ≡ are_among some.now effects.now }
+{
+    some.iter().all(|effect| is_among(effect, effects))
+}
+
 // The difference of no effect and some effects.
 fn left_over(subsystem: u8, at: u32, acts: &[Effect]) -> Option<BookFault>
     ensures { result ≡ difference_from subsystem at [] acts.now }
@@ -48,52 +54,13 @@ fn left_over(subsystem: u8, at: u32, acts: &[Effect]) -> Option<BookFault>
     }
 }
 
-// The difference of at most one effect and some effects.
-fn last_difference(
-    subsystem: u8,
-    at: u32,
-    last: Option<Effect>,
-    acts: &[Effect],
-) -> Option<BookFault>
-    requires few { at + 1 < 2 ^ 32 }
-    ensures { result ≡ difference_from subsystem at (in_doubt last) acts.now }
-{
-    let Some(own) = last else {
-        return left_over(subsystem, at, acts);
-    };
-    match acts {
-        [] => Some(BookFault {
-            subsystem,
-            at,
-            book: Some(own),
-            acts: None,
-        }),
-        [act, later @ ..] => {
-            if same_effect(&own, act) {
-                return left_over(subsystem, at + 1, later);
-            }
-            Some(BookFault {
-                subsystem,
-                at,
-                book: Some(own),
-                acts: Some(*act),
-            })
-        }
-    }
-}
-
-/// The first difference of a book, with one effect more if there is one, and the effects of a history.
-pub fn first_difference(
-    subsystem: u8,
-    book: &[Effect],
-    last: Option<Effect>,
-    acts: &[Effect],
-) -> Option<BookFault>
-    requires few { length book.now + 2 < 2 ^ 32 }
-    ensures { result ≡ difference subsystem (book.now ++ in_doubt last) acts.now }
+/// The first difference of what a book comes to and the effects of a history.
+pub fn first_difference(subsystem: u8, own: &[Effect], acts: &[Effect]) -> Option<BookFault>
+    requires few { length own.now + 1 < 2 ^ 32 }
+    ensures { result ≡ difference subsystem own.now acts.now }
 {
     let mut at = 1;
-    let mut rest = book;
+    let mut rest = own;
     let mut acts = acts;
     while let [own, others @ ..] = rest {
         let [act, later @ ..] = acts else {
@@ -116,22 +83,17 @@ pub fn first_difference(
         rest = others;
         acts = later;
     }
-    last_difference(subsystem, at, last, acts)
+    left_over(subsystem, at, acts)
 }
 
-// The effect in doubt, where it stands among the effects of the history.
-fn counting(doubt: Option<&Effect>, acts: &[Effect]) -> Option<Effect>
-    ensures { result ≡ counting acts.now (option_copied doubt.entry) }
+// What the book of a store comes to: with what is in doubt, where all of that stands among the effects of the history.
+fn counted<'a, B: Resource>(store: &'a Store<B>, acts: &[Effect]) -> &'a [Effect]
+    ensures { result.now ≡ counted acts.now store.now.book store.now.doubt }
 {
-    match doubt {
-        Some(effect) => {
-            if is_among(effect, acts) {
-                Some(*effect)
-            } else {
-                None
-            }
-        }
-        None => None,
+    if are_among(store.in_doubt(), acts) {
+        store.effects()
+    } else {
+        store.book()
     }
 }
 
@@ -141,11 +103,10 @@ pub fn store_difference<B: Resource>(
     store: &Store<B>,
     acts: &[Effect],
 ) -> Option<BookFault>
-    requires few { length store.now.book + 2 < 2 ^ 32 }
-    ensures { result ≡ difference subsystem (store.now.book ++ in_doubt (counting acts.now store.now.doubt)) acts.now }
+    requires few { length store.now.book + length store.now.doubt + 1 < 2 ^ 32 }
+    ensures { result ≡ book_difference subsystem acts.now store.now.book store.now.doubt }
 {
-    let last = counting(store.in_doubt(), acts);
-    first_difference(subsystem, store.book(), last, acts)
+    first_difference(subsystem, counted(store, acts), acts)
 }
 
 /// The first difference of the first store whose book comes to other effects than those of a history.

@@ -15,7 +15,7 @@ ghost use Rattle.history_opening.specs.declared.faults.OpenError.TheVariants.{Di
 use crate::OpenError;
 use crate::faults::{of_opened, of_opened_journal};
 use commute_table::Catalog;
-use history_files::put_back;
+use history_files::{SUBSYSTEMS, put_back};
 use process_disk::Rack;
 use process_journal::Journal;
 use resource_box::Resource;
@@ -87,7 +87,7 @@ pub fn read_files<R: Rack, B: Resource>(
     ensures due { Told (R.disk rack.old) → IfErr result (λ e. (e ≡ NoMemory) ⊎ IsDueToReading (R.disk rack.old).files e) }
     ensures rack { LeavesRack R.Rack rack.old rack.new (IsErrOf result Fault) }
 {
-    let Ok(stores) = Vec::with_capacity(alloc, 8) else {
+    let Ok(stores) = Vec::with_capacity(alloc, usize::from(SUBSYSTEMS)) else {
         return Err(OpenError::NoMemory);
     };
     let (journal, catalog, history) = match Journal::open(alloc, rack) {

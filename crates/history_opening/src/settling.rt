@@ -7,14 +7,14 @@ ghost use Rattle.schedule_model.specs.Histories.{acts};
 ghost use Rattle.history_files.specs.Effects.{effects};
 ghost use Rattle.history_files.specs.Groups.{HasEachDoubt};
 ghost use Rattle.history_files.specs.Laws.{AreSettled};
-ghost use Rattle.history_files.specs.Sound.{IsSound, is_among};
+ghost use Rattle.history_files.specs.Sound.{IsSound, are_among, is_among};
 ghost use Rattle.history_files.specs.Standing.{Stand, EachFits, AreGoodBooks, ComeTo};
 ghost use Rattle.history_opening.specs.Settling.{AreDueBelow};
 
 use crate::effects::has_effect;
 use commute_table::Catalog;
 use gate_log::DiskFault;
-use history_files::Files;
+use history_files::{Files, SUBSYSTEMS};
 use process_disk::Rack;
 use resource_box::Resource;
 use schedule_rules::History;
@@ -34,7 +34,17 @@ fn is_recorded(catalog: &Catalog, history: &History, q: u8, effect: &Effect) -> 
     )
 }
 
-// Takes back the effect that is in doubt in the store of a subsystem, if the history lacks it.
+// Whether a history has each of some effects on a subsystem.
+fn are_recorded(catalog: &Catalog, history: &History, q: u8, doubt: &[Effect]) -> bool
+    requires few { length (acts history.now.events) < 2 ^ 32 }
+    ensures { result ≡ are_among doubt.now (effects catalog.now.ops history.now q) }
+{
+    doubt
+        .iter()
+        .all(|effect| is_recorded(catalog, history, q, effect))
+}
+
+// Takes back what is in doubt in the store of a subsystem, if the history hasn't all of it.
 fn take_back<R: Rack + Drop, B: Resource>(
     files: &mut Files<R, B>,
     q: u8,
@@ -60,17 +70,13 @@ fn take_back<R: Rack + Drop, B: Resource>(
     ensures rack { LeavesImages R.Rack files.old.rack files.new.rack (IsErr result) }
 {
     files.soundness_holds();
-    let effect = match files.in_doubt(q) {
-        Some(effect) => *effect,
-        None => return Ok(()),
-    };
-    if is_recorded(catalog, history, q, &effect) {
+    if are_recorded(catalog, history, q, files.in_doubt(q)) {
         return Ok(());
     }
     files.roll_back(q)
 }
 
-// Takes back each effect that is in doubt and that the history lacks.
+// Takes back what is in doubt in each store where the history hasn't all of it.
 fn take_back_each<R: Rack + Drop, B: Resource>(
     files: &mut Files<R, B>,
     catalog: &Catalog,
@@ -94,7 +100,7 @@ fn take_back_each<R: Rack + Drop, B: Resource>(
 {
     files.soundness_holds();
     let mut q = 0;
-    while q < 8 {
+    while q < SUBSYSTEMS {
         take_back(files, q, catalog, history)?;
         q += 1;
     }
@@ -102,7 +108,7 @@ fn take_back_each<R: Rack + Drop, B: Resource>(
     Ok(())
 }
 
-/// Settles what is in doubt in each store by the history: it takes back what the history lacks, and commits the others, with two
+/// Settles what is in doubt in each store by the history: it takes back what the history hasn't, and commits the others, with two
 /// syncs for all.
 pub fn settle_all<R: Rack + Drop, B: Resource>(
     files: &mut Files<R, B>,

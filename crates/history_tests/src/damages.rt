@@ -4,8 +4,12 @@ use process_journal::JournalError;
 
 // Places of the file, from one on and below another; the least, a middle and the greatest of the values of the byte there that have
 // one answer; and how many events the history has then, or why there is no journal.
-pub const DAMAGES: [(usize, usize, u8, u8, u8, Result<usize, JournalError>); 93] = [
-    (0, 8, 0, 128, 255, Err(JournalError::BadHeader)),
+pub const DAMAGES: [(usize, usize, u8, u8, u8, Result<usize, JournalError>); 97] = [
+    (0, 4, 0, 128, 255, Err(JournalError::BadHeader)),
+    (4, 5, 0, 0, 0, Err(JournalError::BadHeader)),
+    (4, 5, 1, 1, 1, Ok(3)),
+    (4, 5, 3, 129, 255, Err(JournalError::BadHeader)),
+    (5, 8, 0, 128, 255, Err(JournalError::BadHeader)),
     (8, 9, 0, 0, 0, Err(JournalError::BadRecord(1))),
     (8, 9, 2, 129, 255, Ok(3)),
     (9, 10, 0, 0, 0, Err(JournalError::BadRecord(1))),

@@ -13,7 +13,7 @@ use std::alloc::Global;
 use std::process::Abort;
 
 // File 0 after the run of one process of one step.
-const FILE: [u8; 76] = *b"tpsl\x01\x00\x00\x00\
+const FILE: [u8; 76] = *b"tpsl\x02\x00\x00\x00\
 \x01\x0b\x00\x00\x01\x01\x00\x03add\x00\x00\x00\
 \x01\x1f\x00\x01\x01\x00\x00\x00process a c x add 1 5 end\n\
 \x01\x08\x00\x02\x01\x00\x00\x00\x00\x00\x00\
@@ -76,7 +76,7 @@ fn each_damage_has_its_answer(rt: HostRuntime) {
 }
 
 #[test]
-fn a_journal_of_version_2_is_opened(rt: HostRuntime) {
+fn a_journal_of_a_catalog_of_version_2_is_opened(rt: HostRuntime) {
     let alloc = rt.alloc();
     let mut file = whole_file(&rt, alloc);
     assert!(rt; file.len() == FILE.len());

@@ -1,6 +1,6 @@
 -- What the events of a group add to the effects of a history.
 use Rattle.std.proofs.Common.{◌≡◌, ◌+◌, ℕ, Bool, true, false, cond, List, [], ◌∷◌, ◌++◌, length, append-nil, length-append, Some, None, refl, sym, ◌∙◌, ap, subst}
-use Rattle.std.specs.Prelude.{nat_eq}
+use Rattle.std.specs.Prelude.{nat_eq, option_to_list}
 use Rattle.std.proofs.lemmas.Bool.{eqb-true, eqb-false}
 use Rattle.std.proofs.lemmas.Option.{same_Some}
 use Rattle.process_tree.specs.Order.{Each}
@@ -14,7 +14,6 @@ use Rattle.schedule_model.proofs.Appends.{acts-append}
 use Rattle.commute_table.specs.declared.catalog.Catalog.{Catalog}
 use Rattle.commute_table.specs.declared.op.Op.{Op}
 use Rattle.subsystem_store.specs.declared.effect.Effect.{Effect}
-use Rattle.subsystem_store.specs.Laws.{in_doubt}
 use Rattle.process_journal.specs.Bodies.{with_event}
 use Rattle.process_journal.specs.Journals.{IsHistoryUnder}
 use Rattle.history_files.specs.Effects.{effects, effect_of, subsystem_of}
@@ -55,22 +54,22 @@ module _ (acts_add : ActsAddTheirEffect) (ends_add : EndsAddNone) (ops : List Op
 
   -- what one act adds, before what the others add
   add_act : (h : History) (e : Entry) (es : List Event) (b : Bool) → nat_eq (subsystem_of ops e.op) q ≡ b → Each (IsBeside ops (subsystem_of ops e.op)) es
-      → effects ops (with_events (with_event h (Act e)) es) q ≡ effects ops (with_event h (Act e)) q ++ in_doubt (effect_on ops h.plans q (length (acts (with_event h (Act e)).events)) es)
-      → effects ops (with_events (with_event h (Act e)) es) q ≡ effects ops h q ++ in_doubt (cond b (Some (next_effect ops h e)) (effect_on ops h.plans q (length (acts h.events) + 1) es))
+      → effects ops (with_events (with_event h (Act e)) es) q ≡ effects ops (with_event h (Act e)) q ++ option_to_list (effect_on ops h.plans q (length (acts (with_event h (Act e)).events)) es)
+      → effects ops (with_events (with_event h (Act e)) es) q ≡ effects ops h q ++ option_to_list (cond b (Some (next_effect ops h e)) (effect_on ops h.plans q (length (acts h.events) + 1) es))
   add_act h e es true is beside rest = same_beside (with_event h (Act e)) es (subst (λ k. Each (IsBeside ops k) es) (eqb-true (subsystem_of ops e.op) q is) beside) ∙ here h e is
   add_act h e es false is beside rest = rest
-      ∙ ap (λ xs. xs ++ in_doubt (effect_on ops h.plans q (length (acts (with_event h (Act e)).events)) es)) (there h e is)
-      ∙ ap (λ n. effects ops h q ++ in_doubt (effect_on ops h.plans q n es)) (acts_more h e)
+      ∙ ap (λ xs. xs ++ option_to_list (effect_on ops h.plans q (length (acts (with_event h (Act e)).events)) es)) (there h e is)
+      ∙ ap (λ n. effects ops h q ++ option_to_list (effect_on ops h.plans q n es)) (acts_more h e)
 
   -- A group adds the effect that it has on the subsystem, if it has one,
   pub group_adds : (h : History) (es : List Event) → AreApart ops es
-      → effects ops (with_events h es) q ≡ effects ops h q ++ in_doubt (effect_on ops h.plans q (length (acts h.events)) es)
+      → effects ops (with_events h es) q ≡ effects ops h q ++ option_to_list (effect_on ops h.plans q (length (acts h.events)) es)
   group_adds h [] apart = sym (append-nil (effects ops h q))
   group_adds h (Start i ∷ es) apart = absurd apart
   group_adds h (End i ∷ es) apart =
       group_adds (with_event h (End i)) es apart
-      ∙ ap (λ xs. xs ++ in_doubt (effect_on ops h.plans q (length (acts (with_event h (End i)).events)) es)) (ends_add ops h i q)
-      ∙ ap (λ n. effects ops h q ++ in_doubt (effect_on ops h.plans q n es)) (acts_same h i)
+      ∙ ap (λ xs. xs ++ option_to_list (effect_on ops h.plans q (length (acts (with_event h (End i)).events)) es)) (ends_add ops h i q)
+      ∙ ap (λ n. effects ops h q ++ option_to_list (effect_on ops h.plans q n es)) (acts_same h i)
   group_adds h (Act e ∷ es) apart = add_act h e es (nat_eq (subsystem_of ops e.op) q) refl apart.0 (group_adds (with_event h (Act e)) es apart.1)
 
   lacks_act : (h : History) (e : Entry) (es : List Event) (x : Effect) (b : Bool) → nat_eq (subsystem_of ops e.op) q ≡ b

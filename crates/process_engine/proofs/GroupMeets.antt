@@ -1,10 +1,9 @@
 -- The effects of the pieces of a group that run may be prepared together, and their events recorded.
-use Rattle.std.proofs.Common.{◌≡◌, ◌⊎◌, inl, inr, ◌∙◌, ◌≤◌, ◌<◌, ◌+◌, ℕ, Bool, true, false, cond, List, [], ◌∷◌, ◌++◌, length, Option, Some, None, refl, sym, ap, subst, arith}
-use Rattle.std.specs.Prelude.{nat_eq}
-use Rattle.std.specs.List.{slice_get}
-use Rattle.std.specs.List.{list_all}
+use Rattle.std.proofs.Common.{◌≡◌, ◌≢◌, ◌⊎◌, inl, inr, ◌∙◌, ◌≤◌, ◌<◌, ◌+◌, ℕ, Bool, true, false, cond, if◌then◌else◌, List, [], ◌∷◌, ◌++◌, length, Option, Some, None, refl, sym, ap, subst, arith}
+use Rattle.std.specs.Prelude.{nat_eq, option_to_list}
+use Rattle.std.specs.List.{All, Contains, list_all, slice_get}
+use Rattle.std.proofs.lemmas.List.Elements.{All-cons, All-nil}
 use Rattle.std.proofs.lemmas.Bool.{eqb-true, ne_eqb}
-use Rattle.subsystem_store.specs.Laws.{in_doubt}
 use Rattle.commute_table.specs.Operations.{is_good_op}
 use Rattle.machine_model.specs.Progress.{same_work}
 use Rattle.process_core.specs.Cores.{courses_in, history_of}
@@ -25,13 +24,14 @@ use Rattle.machine_model.specs.Advance.{event_by, event_of}
 use Rattle.machine_model.specs.Moment.{Piece}
 use Rattle.subsystem_store.specs.declared.effect.Effect.{Effect}
 use Rattle.subsystem_store.specs.Bodies.{is_amount}
-use Rattle.subsystem_store.specs.Order.{may_follow}
+use Rattle.subsystem_store.specs.Order.{may_follow, most_effects}
+use Rattle.subsystem_store.specs.Room.{HasRoom, forwards}
 use Rattle.subsystem_store.specs.Opened.{Opened}
-use Rattle.store_group.specs.Events.{MayPrepare, MayPrepareEach, effect_for}
+use Rattle.store_group.specs.Events.{MayPrepare, MayPrepareEach, effects_for}
 use Rattle.history_files.specs.Effects.{effect_of, effects, subsystem_of}
 use Rattle.history_files.specs.Groups.{AddsGroup, LacksEach}
 use Rattle.history_files.specs.Laws.{ActsAddTheirEffect, EndsAddNone, NextEffectsMayBePrepared}
-use Rattle.history_files.specs.Sound.{kind_of}
+use Rattle.history_files.specs.Sound.{is_among, kind_of}
 use Rattle.history_files.specs.Standing.{AreStores}
 use Rattle.engine_steps.specs.Engines.{AreAtRest, EngineState, full_history}
 use Rattle.engine_steps.specs.Groups.{with_events}
@@ -40,7 +40,7 @@ use Rattle.engine_steps.proofs.Subsystems.{subsystem_low}
 use Rattle.process_engine.specs.Events.{AreApart, GoesOnBy, ListsEffects, effect_on}
 use Rattle.process_engine.specs.Pieces.{events_of}
 use Rattle.process_engine.specs.Queues.{HasRoomFor}
-use Rattle.process_engine.proofs.Places.{beyond_or_below, none_beyond, one_of_eight}
+use Rattle.process_engine.proofs.Places.{beyond_or_below, none_beyond}
 use Rattle.process_engine.proofs.GroupEffects.{IsNextBehind, group_adds, group_lacks, group_next}
 
 -- the piece whose effect is on a subsystem: it is the effect of its act, before which some acts stand
@@ -91,9 +91,26 @@ forward_or_undo : (w : Work) → (w ≡ Forward) ⊎ (w ≡ Undo) → (w ≡ For
 forward_or_undo w (inl is) = inl is
 forward_or_undo w (inr is) = inr (ap (λ x. same_work x Undo) is)
 
+-- what is so of something that may be there is so of each of its list
+all_of_option : (P : Effect → Type 0) (o : Option Effect) → ((x : Effect) → o ≡ Some x → P x) → All P (option_to_list o)
+all_of_option P None so = All-nil P
+all_of_option P (Some x) so = All-cons P x [] (so x refl) (All-nil P)
+
+-- a key at which there is room is enough for one effect; an undo wants none
+room_of_one : (ready : List ℕ) (x : Effect) → (x.undo ≡ true) ⊎ Contains ready x.call.key → HasRoom ready (x ∷ [])
+room_of_one ready x has = record { keys = All-cons (λ (y : Effect). (y.undo ≡ true) ⊎ Contains ready y.call.key) x [] has (All-nil (λ (y : Effect). (y.undo ≡ true) ⊎ Contains ready y.call.key)); many = by has }
+  where
+    most : (u : Bool) → (if u then 0 else 1) + 0 ≤ 1
+    most true = omega arith
+    most false = omega arith
+
+    by : (x.undo ≡ true) ⊎ Contains ready x.call.key → forwards (x ∷ []) ≤ length ready
+    by (inl undo) = subst (λ u. (if u then 0 else 1) + 0 ≤ length ready) (sym undo) (omega arith)
+    by (inr is) = let within = is.1 in let one = most x.undo in omega (arith, within, one)
+
 module _ (acts_add : ActsAddTheirEffect) (ends_add : EndsAddNone) (may_be : NextEffectsMayBePrepared) {R B : Type 0} (e : EngineState R B) (disk : Disk)
     (rest : AreAtRest e.catalog (full_history e.core) e.files disk) (stores : AreStores e.files.stores) (good : list_all is_good_op e.catalog.ops ≡ true)
-    (ps : List Piece) (apart : AreApart e.catalog.ops (events_of (courses_in e.core) ps)) (group : List (Option Effect))
+    (ps : List Piece) (apart : AreApart e.catalog.ops (events_of (courses_in e.core) ps)) (group : List (List Effect))
     (lists : ListsEffects e.catalog.ops e.core.plans (length (acts (history_of e.core))) (events_of (courses_in e.core) ps) group) where
   abbrev events : List Event
   events = events_of (courses_in e.core) ps
@@ -101,18 +118,7 @@ module _ (acts_add : ActsAddTheirEffect) (ends_add : EndsAddNone) (may_be : Next
   abbrev h : History
   h = full_history e.core
 
-  -- an effect of the group is on one of the eight subsystems
-  low : (q : ℕ) (x : Effect) → effect_for group q ≡ Some x → q < 8
-  low q x is = one_of_eight group q x lists.eight is
-
-  on_place : (q : ℕ) (x : Effect) → effect_for group q ≡ Some x → effect_on e.catalog.ops e.core.plans q (length (acts h.events)) events ≡ Some x
-  on_place q x is = sym (lists.each q (low q x is)) ∙ is
-
-  -- the history lacks each,
-  pub lacks_each : LacksEach e.catalog.ops h group
-  lacks_each q x is = group_lacks acts_add ends_add e.catalog.ops q h events x apart (on_place q x is)
-
-  -- and adds it with the events
+  -- no effect is beyond the eight subsystems
   beyond : (q : ℕ) (es : List Event) (n : ℕ) → 8 ≤ q → effect_on e.catalog.ops e.core.plans q n es ≡ None
   beyond q [] n high = refl
   beyond q (Start i ∷ es) n high = beyond q es n high
@@ -122,39 +128,58 @@ module _ (acts_add : ActsAddTheirEffect) (ends_add : EndsAddNone) (may_be : Next
       (ne_eqb (subsystem_of e.catalog.ops x.op) q (λ same. let below = subsystem_low e.catalog.ops x.op good in absurd (omega (arith, same, below, high))))
       ∙ beyond q es (n + 1) high
 
-  same_on : (q : ℕ) → (8 ≤ q) ⊎ (q < 8) → effect_on e.catalog.ops e.core.plans q (length (acts h.events)) events ≡ effect_for group q
-  same_on q (inl high) = beyond q events (length (acts h.events)) high ∙ sym (none_beyond group q (let eight = lists.eight in omega (arith, eight, high)))
+  same_on : (q : ℕ) → (8 ≤ q) ⊎ (q < 8) → option_to_list (effect_on e.catalog.ops e.core.plans q (length (acts h.events)) events) ≡ effects_for group q
+  same_on q (inl high) = ap option_to_list (beyond q events (length (acts h.events)) high) ∙ sym (none_beyond group q (let eight = lists.eight in omega (arith, eight, high)))
   same_on q (inr below) = sym (lists.each q below)
 
-  pub adds_group : AddsGroup e.catalog.ops h (with_events h events) group
-  adds_group q = group_adds acts_add ends_add e.catalog.ops q h events apart ∙ ap (λ o. effects e.catalog.ops h q ++ in_doubt o) (same_on q (beyond_or_below 8 q))
+  -- what is so of the effect on a subsystem, if there is one, is so of each of the group there
+  of_each : (P : Effect → Type 0) (q : ℕ) → ((x : Effect) → effect_on e.catalog.ops e.core.plans q (length (acts h.events)) events ≡ Some x → P x) → All P (effects_for group q)
+  of_each P q so = subst (All P) (same_on q (beyond_or_below 8 q)) (all_of_option P (effect_on e.catalog.ops e.core.plans q (length (acts h.events)) events) so)
 
-  -- the amount of each is within its limit
-  pub amounts_fit : GoesOnBy e.catalog h events → (q : ℕ) (x : Effect) → effect_for group q ≡ Some x → is_amount x.call.amount ≡ true
-  amounts_fit goes q x is =
-      let next = group_next acts_add ends_add e.catalog.ops q e.catalog h events x apart goes (on_place q x is) in
-      subst (λ (y : Effect). is_amount y.call.amount ≡ true) (sym next.is) (may_be e.catalog next.before next.entry q next.on next.may).amount
+  pub adds_group : AddsGroup e.catalog.ops h (with_events h events) group
+  adds_group q = group_adds acts_add ends_add e.catalog.ops q h events apart ∙ ap (λ es. effects e.catalog.ops h q ++ es) (same_on q (beyond_or_below 8 q))
+
+  -- which it lacks,
+  pub lacks_each : LacksEach e.catalog.ops h group
+  lacks_each q = of_each (λ x. is_among x (effects e.catalog.ops h q) ≡ false) q (λ x is. group_lacks acts_add ends_add e.catalog.ops q h events x apart is)
+
+  -- and the amount of each is within its limit
+  pub amounts_fit : GoesOnBy e.catalog h events → (q : ℕ) → All (λ (x : Effect). is_amount x.call.amount ≡ true) (effects_for group q)
+  amounts_fit goes q = of_each (λ x. is_amount x.call.amount ≡ true) q (λ x is.
+      let next = group_next acts_add ends_add e.catalog.ops q e.catalog h events x apart goes is in
+      subst (λ (y : Effect). is_amount y.call.amount ≡ true) (sym next.is) (may_be e.catalog next.before next.entry q next.on next.may).amount)
 
   -- each may be prepared in its store
   module _ (goes : GoesOnBy e.catalog h events) (room : Each (HasRoomFor e) ps) where
-    prepares : (q : ℕ) (s : Opened B) (x : Effect) → slice_get e.files.stores q ≡ Some s → effect_for group q ≡ Some x
-        → IsNextBehind acts_add ends_add e.catalog.ops q e.catalog h x → HasEffect e.catalog.ops e.core.plans q (HasRoomFor e) x → MayPrepare s x
-    prepares q s x at is next has =
+    prepares : (q : ℕ) (s : Opened B) (x : Effect) → slice_get e.files.stores q ≡ Some s
+        → IsNextBehind acts_add ends_add e.catalog.ops q e.catalog h x → HasEffect e.catalog.ops e.core.plans q (HasRoomFor e) x → MayPrepare s (x ∷ [])
+    prepares q s x at next has =
         let may = may_be e.catalog next.before next.entry q next.on next.may in
         let book = rest.books q s at in
         record {
           settled = rest.none q s at;
-          few = subst (λ b. length b < 16384) (sym (book ∙ sym next.same)) may.few;
-          follows = subst (λ k. may_follow k s.book x ≡ true) (sym (stores.kind q s at))
-              (subst (λ b. may_follow (kind_of q) b x ≡ true) (sym (book ∙ sym next.same)) (subst (λ y. may_follow (kind_of q) (effects e.catalog.ops next.before q) y ≡ true) (sym next.is) may.follows));
-          room = by (forward_or_undo has.piece.work has.no_end);
+          few = subst (λ b. length b + length (x ∷ []) ≤ most_effects) (sym (book ∙ sym next.same)) (one_more may.few);
+          together = omega arith;
+          follow = (
+            subst (λ k. may_follow k s.book x ≡ true) (sym (stores.kind q s at))
+                (subst (λ b. may_follow (kind_of q) b x ≡ true) (sym (book ∙ sym next.same)) (subst (λ y. may_follow (kind_of q) (effects e.catalog.ops next.before q) y ≡ true) (sym next.is) may.follows)),
+            tt,
+          );
+          room = room_of_one s.ready x (by (forward_or_undo has.piece.work has.no_end));
         }
       where
-        by : (has.piece.work ≡ Forward) ⊎ (same_work has.piece.work Undo ≡ true) → (x.undo ≡ true) ⊎ (s.ready ≡ Some x.call.key)
-        by (inl forward) = inr (has.holds forward s (subst (λ k. slice_get e.files.stores k ≡ Some s) (sym has.on) at) ∙ ap (λ (y : Effect). Some y.call.key) (sym has.is))
+        one_more : {n m : ℕ} → n < m → n + 1 ≤ m
+        one_more less = omega (arith, less)
+
+        by : (has.piece.work ≡ Forward) ⊎ (same_work has.piece.work Undo ≡ true) → (x.undo ≡ true) ⊎ Contains s.ready x.call.key
+        by (inl forward) = inr (subst (Contains s.ready) (ap (λ (y : Effect). y.call.key) (sym has.is)) (has.holds forward s (subst (λ k. slice_get e.files.stores k ≡ Some s) (sym has.on) at)))
         by (inr undo) = inl (ap (λ (y : Effect). y.undo) has.is ∙ undo)
 
     pub may_prepare_each : MayPrepareEach group e.files.stores
-    may_prepare_each q s x at is =
-        prepares q s x at is (group_next acts_add ends_add e.catalog.ops q e.catalog h events x apart goes (on_place q x is))
-        (has_effect e.catalog.ops e.core.plans q (HasRoomFor e) x ps (length (acts h.events)) room (on_place q x is))
+    may_prepare_each q s at = subst (λ es. es ≢ [] → MayPrepare s es) (same_on q (beyond_or_below 8 q)) (by (effect_on e.catalog.ops e.core.plans q (length (acts h.events)) events) refl)
+      where
+        by : (o : Option Effect) → effect_on e.catalog.ops e.core.plans q (length (acts h.events)) events ≡ o → option_to_list o ≢ [] → MayPrepare s (option_to_list o)
+        by None is some = absurd (some refl)
+        by (Some x) is some =
+            prepares q s x at (group_next acts_add ends_add e.catalog.ops q e.catalog h events x apart goes is)
+            (has_effect e.catalog.ops e.core.plans q (HasRoomFor e) x ps (length (acts h.events)) room is)

@@ -1,5 +1,6 @@
 -- What the steps of a group ask, of pieces that may take effect together.
-use Rattle.std.proofs.Common.{◌≡◌, ◌≢◌, ℕ, true, List, [], ◌∷◌, length, map, Option, Some, refl, sym, subst, arith}
+use Rattle.std.proofs.Common.{◌≡◌, ◌≢◌, ℕ, true, List, [], ◌∷◌, length, map, refl, sym, subst, arith}
+use Rattle.std.specs.List.{All}
 use Rattle.std.proofs.lemmas.List.{length-map}
 use Rattle.process_disk.specs.Disk.{Disk, FileSet}
 use Rattle.process_disk.specs.Images.{EachImage, ImagesFollow}
@@ -17,7 +18,7 @@ use Rattle.process_journal.specs.Journals.{AreMadeBy}
 use Rattle.process_journal.specs.Laws.{RecordsMakeHistories}
 use Rattle.subsystem_store.specs.declared.effect.Effect.{Effect}
 use Rattle.subsystem_store.specs.Bodies.{is_amount}
-use Rattle.store_group.specs.Events.{MayPrepareEach, effect_for}
+use Rattle.store_group.specs.Events.{MayPrepareEach, effects_for}
 use Rattle.history_files.specs.Groups.{AddsGroup, LacksEach}
 use Rattle.history_files.specs.Laws.{ActsAddTheirEffect, EndsAddNone, NextEffectsMayBePrepared}
 use Rattle.history_files.specs.Standing.{AreStores}
@@ -39,8 +40,8 @@ no_starts courses [] = tt
 no_starts courses (p ∷ ps) = (no_start_by courses p.process p.step p.work, no_starts courses ps)
 
 -- What is asked of them.
-pub record MeetsEach {R B : Type 0} (e : EngineState R B) (events : List Event) (group : List (Option Effect)) : Type 0 where
-  pub amounts : (q : ℕ) (x : Effect) → effect_for group q ≡ Some x → is_amount x.call.amount ≡ true
+pub record MeetsEach {R B : Type 0} (e : EngineState R B) (events : List Event) (group : List (List Effect)) : Type 0 where
+  pub amounts : (q : ℕ) → All (λ (x : Effect). is_amount x.call.amount ≡ true) (effects_for group q)
   pub may : MayPrepareEach group e.files.stores
   pub lacks : LacksEach e.catalog.ops (full_history e.core) group
   pub made : AreMadeBy e.catalog (map record_for events) (full_history e.core) (with_events (full_history e.core) events)
@@ -53,7 +54,7 @@ some_events courses (p ∷ ps) some is = cc
 
 pub group_meets : (acts_add : ActsAddTheirEffect) (ends_add : EndsAddNone) (may_be : NextEffectsMayBePrepared) (law : RecordsMakeHistories) {R B : Type 0} (e : EngineState R B) (disk : Disk)
     → IsCore e.core → IsUnder e.catalog e.core → AreAtRest e.catalog (full_history e.core) e.files disk → AreStores e.files.stores → (ps : List Piece) → IsGroup e ps
-    → (group : List (Option Effect)) → ListsEffects e.catalog.ops e.core.plans (length (acts (history_of e.core))) (events_of (courses_in e.core) ps) group
+    → (group : List (List Effect)) → ListsEffects e.catalog.ops e.core.plans (length (acts (history_of e.core))) (events_of (courses_in e.core) ps) group
     → MeetsEach e (events_of (courses_in e.core) ps) group
 group_meets acts_add ends_add may_be law e disk core under rest stores ps is group lists =
     let good = under.history.catalog.good in
@@ -72,7 +73,7 @@ group_meets acts_add ends_add may_be law e disk core under rest stores ps is gro
     }
 
 -- a prepared group may be recorded
-pub recordable : {R B : Type 0} (old new : EngineState R B) (disk : Disk) (events : List Event) (group : List (Option Effect)) → MeetsEach old events group → new.core ≡ old.core → new.catalog ≡ old.catalog
+pub recordable : {R B : Type 0} (old new : EngineState R B) (disk : Disk) (events : List Event) (group : List (List Effect)) → MeetsEach old events group → new.core ≡ old.core → new.catalog ≡ old.catalog
     → IsGroupPrepared new disk group → MayBeRecorded new disk events group
 recordable old new disk events group meets core catalog prepared = record {
   prepared = prepared;

@@ -1,7 +1,7 @@
 -- What is queued stays so.
 use Rattle.std.proofs.Common.{◌≡◌, ◌≢◌, ◌⊎◌, inl, inr, ◌∙◌, ◌≤◌, ◌<◌, eqb, ℕ, Bool, true, false, not, cond, ◌&&◌, List, [], ◌∷◌, ◌++◌, length, length-append, filter, Some, is_some, refl, sym, ap, subst, arith}
 use Rattle.std.specs.Prelude.{nat_le}
-use Rattle.std.specs.List.{list_any, list_all, slice_get}
+use Rattle.std.specs.List.{Contains, list_any, list_all, slice_get}
 use Rattle.std.proofs.lemmas.Bool.{and_from, eqb-false, eq-eqb, leb-false, ne_eqb, or_parts, or_from, false≢true}
 use Rattle.std.proofs.lemmas.List.{length-map, map-append}
 use Rattle.process_tree.specs.Order.{Each}
@@ -138,7 +138,7 @@ module _ {B : Type 0} (q : ℕ) (old new : List (Opened B)) (changes : Changes q
   other_room : (k key : ℕ) → k ≢ q → HasRoomAt k key old → HasRoomAt k key new
   other_room k key other room s at = by (place_of_set old q changes.after k s (ap (λ ss. slice_get ss k) (sym changes.is) ∙ at))
     where
-      by : ((k ≡ q) × (s ≡ changes.after)) ⊎ ((k ≢ q) × (slice_get old k ≡ Some s)) → s.ready ≡ Some key
+      by : ((k ≡ q) × (s ≡ changes.after)) ⊎ ((k ≢ q) × (slice_get old k ≡ Some s)) → Contains s.ready key
       by (inl here) = absurd (other here.0)
       by (inr there) = room s there.1
 

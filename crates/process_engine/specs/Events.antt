@@ -1,5 +1,5 @@
 -- The events of a group: the history with them, and their effects.
-use Rattle.std.specs.Prelude.{ℕ, ◌+◌, ◌<◌, ◌≡◌, ⊤, false, List, [], ◌∷◌, length, nat_eq, if◌then◌else◌, Option, Some, None}
+use Rattle.std.specs.Prelude.{ℕ, ◌+◌, ◌<◌, ◌≡◌, ⊤, false, List, [], ◌∷◌, length, nat_eq, if◌then◌else◌, Option, Some, None, option_to_list}
 use Rattle.process_tree.specs.Order.{Each}
 use Rattle.process_tree.specs.declared.plan.Plan.{Plan}
 use Rattle.schedule_model.specs.declared.event.Event.{Event}
@@ -8,7 +8,7 @@ use Rattle.schedule_model.specs.declared.history.History.{History}
 use Rattle.commute_table.specs.declared.catalog.Catalog.{Catalog}
 use Rattle.commute_table.specs.declared.op.Op.{Op}
 use Rattle.subsystem_store.specs.declared.effect.Effect.{Effect}
-use Rattle.store_group.specs.Events.{effect_for}
+use Rattle.store_group.specs.Events.{effects_for}
 use Rattle.process_journal.specs.Bodies.{with_event}
 use Rattle.process_journal.specs.Journals.{IsHistoryUnder}
 use Rattle.history_files.specs.Effects.{effect_of, subsystem_of}
@@ -40,7 +40,7 @@ AreApart ops (End i ∷ es) = AreApart ops es
 AreApart ops (Act e ∷ es) = Each (IsBeside ops (subsystem_of ops e.op)) es × AreApart ops es
 
 -- the group lists the effect that these events have on each subsystem; n acts stand before them
-pub record ListsEffects (ops : List Op) (plans : List Plan) (n : ℕ) (events : List Event) (group : List (Option Effect)) : Type 0
+pub record ListsEffects (ops : List Op) (plans : List Plan) (n : ℕ) (events : List Event) (group : List (List Effect)) : Type 0
   where
     pub eight : length group ≡ 8
-    pub each : (q : ℕ) → q < 8 → effect_for group q ≡ effect_on ops plans q n events
+    pub each : (q : ℕ) → q < 8 → effects_for group q ≡ option_to_list (effect_on ops plans q n events)

@@ -1,15 +1,17 @@
 // The effects of the events of a group, each at the place of its subsystem.
-ghost use Rattle.std.specs.Prelude.{◌≡◌, ◌<◌, ◌+◌, ◌^◌, ℕ, length, true, Some, IfSome};
+ghost use Rattle.std.specs.Prelude.{◌≡◌, ◌<◌, ◌+◌, ◌^◌, ℕ, All, length, true};
+ghost use Rattle.subsystem_store.specs.declared.effect.Effect.{Effect};
 ghost use Rattle.subsystem_store.specs.Bodies.{is_amount};
 ghost use Rattle.subsystem_store.specs.Laws.{FitsItsBytes};
 ghost use Rattle.history_files.specs.Groups.{FitEach};
-ghost use Rattle.store_group.specs.Events.{effect_for};
+ghost use Rattle.store_group.specs.Events.{effects_for};
 ghost use Rattle.process_engine.specs.Events.{ListsEffects, effect_on};
 
 use commute_table::Op;
 use history_files::{effect_of, subsystem_of};
 use process_tree::Plan;
 use schedule_model::Event;
+use store_group::Effects;
 use subsystem_store::{Effect, effects_fit_their_bytes};
 
 // The effect of the first act that is on a subsystem.
@@ -33,40 +35,42 @@ fn effect_on(ops: &[Op], plans: &[Plan], q: u8, number: u32, events: &[Event]) -
 
 /// The effects of these events, before which so many acts stand: at each place that of the first act on that subsystem, if there is
 /// one.
-pub fn effects_of(ops: &[Op], plans: &[Plan], number: u32, events: &[Event]) -> [Option<Effect>; 8]
+pub fn effects_of(ops: &[Op], plans: &[Plan], number: u32, events: &[Event]) -> [Effects; 8]
     requires few { number + length events.now < 2 ^ 32 }
     ensures { ListsEffects ops.now plans.now number events.now result }
 {
     [
-        effect_on(ops, plans, 0, number, events),
-        effect_on(ops, plans, 1, number, events),
-        effect_on(ops, plans, 2, number, events),
-        effect_on(ops, plans, 3, number, events),
-        effect_on(ops, plans, 4, number, events),
-        effect_on(ops, plans, 5, number, events),
-        effect_on(ops, plans, 6, number, events),
-        effect_on(ops, plans, 7, number, events),
+        Effects::new(effect_on(ops, plans, 0, number, events)),
+        Effects::new(effect_on(ops, plans, 1, number, events)),
+        Effects::new(effect_on(ops, plans, 2, number, events)),
+        Effects::new(effect_on(ops, plans, 3, number, events)),
+        Effects::new(effect_on(ops, plans, 4, number, events)),
+        Effects::new(effect_on(ops, plans, 5, number, events)),
+        Effects::new(effect_on(ops, plans, 6, number, events)),
+        Effects::new(effect_on(ops, plans, 7, number, events)),
     ]
 }
 
-// An effect fits its bytes, if there is one and its amount is within its limit.
-fn effect_fits(effect: Option<Effect>)
-    requires { IfSome effect (λ e. is_amount e.call.amount ≡ true) }
-    ensures { IfSome effect FitsItsBytes }
+// Effects whose amounts are within their limit fit their bytes.
+fn each_fits(effects: &[Effect])
+    requires { All (λ (e : Effect). is_amount e.call.amount ≡ true) effects.now }
+    ensures { All FitsItsBytes effects.now }
 {
-    if let Some(effect) = effect {
-        effects_fit_their_bytes(effect);
+    let mut place = 0;
+    while place < effects.len() {
+        effects_fit_their_bytes(effects[place]);
+        place += 1;
     }
 }
 
 /// The effects of a group whose amounts are within their limit fit their bytes.
-pub fn effects_fit(group: &[Option<Effect>; 8])
-    requires { (q : ℕ) (e : Effect) → effect_for group.now q ≡ Some e → is_amount e.call.amount ≡ true }
+pub fn effects_fit(group: &[Effects])
+    requires { (q : ℕ) → All (λ (e : Effect). is_amount e.call.amount ≡ true) (effects_for group.now q) }
     ensures { FitEach group.now }
 {
     let mut place = 0;
-    while place < 8 {
-        effect_fits(group[place]);
+    while place < group.len() {
+        each_fits(group[place].as_slice());
         place += 1;
     }
 }

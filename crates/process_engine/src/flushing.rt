@@ -30,7 +30,7 @@ use process_disk::Rack;
 use process_journal::journals_keep_histories;
 use resource_box::Resource;
 use schedule_model::Event;
-use subsystem_store::Effect;
+use store_group::Effects;
 
 // The events of the pieces that run, behind those that are listed.
 fn list_events<R: Rack + Drop, B: Resource>(
@@ -65,10 +65,7 @@ fn pieces_fit(pieces: &[Piece])
 }
 
 // The effects of events that are to be recorded behind the history.
-fn group_of<R: Rack + Drop, B: Resource>(
-    engine: &Engine<R, B>,
-    events: &[Event],
-) -> [Option<Effect>; 8]
+fn group_of<R: Rack + Drop, B: Resource>(engine: &Engine<R, B>, events: &[Event]) -> [Effects; 8]
     requires few { length events.now ≤ 16 }
     ensures { ListsEffects engine.now.catalog.ops engine.now.core.plans (length (acts (history_of engine.now.core))) events.now
         result }

@@ -35,14 +35,14 @@ images_appended c r h after q disk t before made own images =
     (λ l. inr (subst (λ bs. Logs 0 bs files) (sym (bodies_made c r h after before made)) (subst (λ k. Logs k (journal_bodies c h ++ bytes_of r ∷ []) files) own l)))) images
 
 -- a file as a journal writes it stays so
-pub bytes_appended : {E : Type 0} (c : Catalog) (r : Record) (h after : History) (q : ℕ) (result : Result Unit E) (old new : FileSet) → IsHistoryUnder c h → IsMadeBy c r h after → q ≡ 0
-    → (file_of old q ≡ plain_log q (journal_bodies c h) → OnOk result (file_of new q ≡ plain_log q (journal_bodies c h ++ bytes_of r ∷ [])))
-    → file_of old 0 ≡ plain_log 0 (journal_bodies c h) → OnOk result (file_of new 0 ≡ plain_log 0 (journal_bodies c after))
-bytes_appended c r h after q (Ok unit) old new before made own written is =
-    let at : (k : ℕ) → k ≡ 0 → (file_of old k ≡ plain_log k (journal_bodies c h) → file_of new k ≡ plain_log k (journal_bodies c h ++ bytes_of r ∷ [])) → file_of new 0 ≡ plain_log 0 (journal_bodies c h ++ bytes_of r ∷ []) =
-    λ k zero so. subst (λ n. file_of new n ≡ plain_log n (journal_bodies c h ++ bytes_of r ∷ [])) zero (so (subst (λ n. file_of old n ≡ plain_log n (journal_bodies c h)) (sym zero) is)) in
-    at q own written ∙ ap (plain_log 0) (sym (bodies_made c r h after before made))
-bytes_appended c r h after q (Err e) old new before made own written is = tt
+pub bytes_appended : {E : Type 0} (version : ℕ) (c : Catalog) (r : Record) (h after : History) (q : ℕ) (result : Result Unit E) (old new : FileSet) → IsHistoryUnder c h → IsMadeBy c r h after → q ≡ 0
+    → (file_of old q ≡ plain_log version q (journal_bodies c h) → OnOk result (file_of new q ≡ plain_log version q (journal_bodies c h ++ bytes_of r ∷ [])))
+    → file_of old 0 ≡ plain_log version 0 (journal_bodies c h) → OnOk result (file_of new 0 ≡ plain_log version 0 (journal_bodies c after))
+bytes_appended version c r h after q (Ok unit) old new before made own written is =
+    let at : (k : ℕ) → k ≡ 0 → (file_of old k ≡ plain_log version k (journal_bodies c h) → file_of new k ≡ plain_log version k (journal_bodies c h ++ bytes_of r ∷ [])) → file_of new 0 ≡ plain_log version 0 (journal_bodies c h ++ bytes_of r ∷ []) =
+    λ k zero so. subst (λ n. file_of new n ≡ plain_log version n (journal_bodies c h ++ bytes_of r ∷ [])) zero (so (subst (λ n. file_of old n ≡ plain_log version n (journal_bodies c h)) (sym zero) is)) in
+    at q own written ∙ ap (plain_log version 0) (sym (bodies_made c r h after before made))
+bytes_appended version c r h after q (Err e) old new before made own written is = tt
 
 -- the same of all records that are staged: a log with their bytes stands for the history with all,
 pub appended_all : {E : Type 0} (c : Catalog) (rs : List Record) (h after : History) (staged : List (List ℕ)) (result : Result Unit E) (log : LogState) (disk : Disk) → IsHistoryUnder c h → staged ≡ map bytes_of rs → AreMadeBy c rs h after
@@ -62,12 +62,12 @@ images_appended_all c rs h after staged q disk t before are made own images =
     (λ l. inr (subst (λ bs. Logs 0 bs files) (all_bodies c rs h after staged before are made) (subst (λ k. Logs k (journal_bodies c h ++ staged) files) own l)))) images
 
 -- and a file as a journal writes it stays so
-pub bytes_appended_all : {E : Type 0} (c : Catalog) (rs : List Record) (h after : History) (staged : List (List ℕ)) (q : ℕ) (result : Result Unit E) (old new : FileSet) → IsHistoryUnder c h → staged ≡ map bytes_of rs → AreMadeBy c rs h after
-    → q ≡ 0 → (file_of old q ≡ plain_log q (journal_bodies c h) → OnOk result (file_of new q ≡ plain_log q (journal_bodies c h ++ staged)))
-    → file_of old 0 ≡ plain_log 0 (journal_bodies c h) → OnOk result (file_of new 0 ≡ plain_log 0 (journal_bodies c after))
-bytes_appended_all c rs h after staged q (Ok unit) old new before are made own written is =
+pub bytes_appended_all : {E : Type 0} (version : ℕ) (c : Catalog) (rs : List Record) (h after : History) (staged : List (List ℕ)) (q : ℕ) (result : Result Unit E) (old new : FileSet) → IsHistoryUnder c h → staged ≡ map bytes_of rs → AreMadeBy c rs h after
+    → q ≡ 0 → (file_of old q ≡ plain_log version q (journal_bodies c h) → OnOk result (file_of new q ≡ plain_log version q (journal_bodies c h ++ staged)))
+    → file_of old 0 ≡ plain_log version 0 (journal_bodies c h) → OnOk result (file_of new 0 ≡ plain_log version 0 (journal_bodies c after))
+bytes_appended_all version c rs h after staged q (Ok unit) old new before are made own written is =
     let all = journal_bodies c h ++ staged in
-    let at : (k : ℕ) → k ≡ 0 → (file_of old k ≡ plain_log k (journal_bodies c h) → file_of new k ≡ plain_log k all) → file_of new 0 ≡ plain_log 0 all =
-    λ k zero so. subst (λ n. file_of new n ≡ plain_log n all) zero (so (subst (λ n. file_of old n ≡ plain_log n (journal_bodies c h)) (sym zero) is)) in
-    at q own written ∙ ap (plain_log 0) (all_bodies c rs h after staged before are made)
-bytes_appended_all c rs h after staged q (Err e) old new before are made own written is = tt
+    let at : (k : ℕ) → k ≡ 0 → (file_of old k ≡ plain_log version k (journal_bodies c h) → file_of new k ≡ plain_log version k all) → file_of new 0 ≡ plain_log version 0 all =
+    λ k zero so. subst (λ n. file_of new n ≡ plain_log version n all) zero (so (subst (λ n. file_of old n ≡ plain_log version n (journal_bodies c h)) (sym zero) is)) in
+    at q own written ∙ ap (plain_log version 0) (all_bodies c rs h after staged before are made)
+bytes_appended_all version c rs h after staged q (Err e) old new before are made own written is = tt

@@ -70,11 +70,11 @@ unfolding digits
 bodies = refl
 
 -- the file has 76 bytes, and 23 before the start
-size : length (plain_log 0 (journal_bodies add_alone ended)) ≡ 76
+size : length (plain_log 2 0 (journal_bodies add_alone ended)) ≡ 76
 unfolding digits
 size = refl
 
-size_at_first : length (plain_log 0 (journal_bodies add_alone no_history)) ≡ 23
+size_at_first : length (plain_log 2 0 (journal_bodies add_alone no_history)) ≡ 23
 size_at_first = refl
 
 -- it is allowed,

@@ -77,7 +77,7 @@ impl Journal {
         requires empty { Told (R.disk rack.old) → file_of (R.disk rack.old).files 0 ≡ [] }
         ensures stands { Told (R.disk rack.old) → IfOk result (λ journal. Stands journal catalog.now no_history (R.disk rack.new)) }
         ensures bytes { Told (R.disk rack.old) → IfOk result
-            (λ _. file_of (R.disk rack.new).files 0 ≡ plain_log 0 (journal_bodies catalog.now no_history)) }
+            (λ _. file_of (R.disk rack.new).files 0 ≡ plain_log 2 0 (journal_bodies catalog.now no_history)) }
         ensures journal { IfOk result (IsFreshJournal catalog.now no_history) }
         ensures others { Told (R.disk rack.old) → OthersAsBefore 0 (R.disk rack.old) (R.disk rack.new) }
         ensures err { IfErr result (λ e. IsUnmade NoMemory JournalError.DiskFault e (rack.new ≡ rack.old)) }
@@ -131,10 +131,10 @@ impl Journal {
             → IsMadeBy c entry.now h after → IsHistoryUnder c after →
             EachImage (R.disk rack.new) (R.disk rack.old).moment (IsJournalOfEither c h after) }
         // A file as a journal writes it stays so.
-        ensures bytes { Told (R.disk rack.old) → (c : Catalog) (h after : History) → Stands self.old c h (R.disk rack.old)
+        ensures bytes { Told (R.disk rack.old) → (version : ℕ) (c : Catalog) (h after : History) → Stands self.old c h (R.disk rack.old)
             → IsMadeBy c entry.now h after →
-            file_of (R.disk rack.old).files 0 ≡ plain_log 0 (journal_bodies c h) →
-            OnOk result (file_of (R.disk rack.new).files 0 ≡ plain_log 0 (journal_bodies c after)) }
+            file_of (R.disk rack.old).files 0 ≡ plain_log version 0 (journal_bodies c h) →
+            OnOk result (file_of (R.disk rack.new).files 0 ≡ plain_log version 0 (journal_bodies c after)) }
         ensures others { Told (R.disk rack.old) → OthersAsBefore 0 (R.disk rack.old) (R.disk rack.new) }
         // What was staged is let go.
         ensures ok { OnOk result (HasOneMore self.old self.new) }
@@ -173,10 +173,10 @@ impl Journal {
             → Stands self.old c h (R.disk rack.old) → self.old.staged ≡ map bytes_of rs → AreMadeBy c rs h after →
             EachImage (R.disk rack.new) (R.disk rack.old).moment (IsJournalOfEither c h after) }
         // A file as a journal writes it stays so.
-        ensures bytes { Told (R.disk rack.old) → (c : Catalog) (h after : History) (rs : List Record)
+        ensures bytes { Told (R.disk rack.old) → (version : ℕ) (c : Catalog) (h after : History) (rs : List Record)
             → Stands self.old c h (R.disk rack.old) → self.old.staged ≡ map bytes_of rs → AreMadeBy c rs h after →
-            file_of (R.disk rack.old).files 0 ≡ plain_log 0 (journal_bodies c h) →
-            OnOk result (file_of (R.disk rack.new).files 0 ≡ plain_log 0 (journal_bodies c after)) }
+            file_of (R.disk rack.old).files 0 ≡ plain_log version 0 (journal_bodies c h) →
+            OnOk result (file_of (R.disk rack.new).files 0 ≡ plain_log version 0 (journal_bodies c after)) }
         ensures others { Told (R.disk rack.old) → OthersAsBefore 0 (R.disk rack.old) (R.disk rack.new) }
         ensures ok { OnOk result (self.new ≡ with_staged self.old) }
         ensures err { OnErr result (self.new ≡ self.old) }
@@ -193,10 +193,10 @@ impl Journal {
         requires open { Told (R.disk rack.old) → IsOpen self.old (R.disk rack.old) }
         ensures acknowledged { Told (R.disk rack.old) → (bodies : List (List ℕ)) → StandsFor self.old bodies (R.disk rack.old) →
             OnOk result (StandsFor self.new (bodies ++ bytes_of entry.now ∷ []) (R.disk rack.new)) }
-        ensures bytes { Told (R.disk rack.old) → (bodies : List (List ℕ)) → StandsFor self.old bodies (R.disk rack.old) →
-            file_of (R.disk rack.old).files self.old.file ≡ plain_log self.old.file bodies →
+        ensures bytes { Told (R.disk rack.old) → (version : ℕ) (bodies : List (List ℕ)) → StandsFor self.old bodies (R.disk rack.old) →
+            file_of (R.disk rack.old).files self.old.file ≡ plain_log version self.old.file bodies →
             OnOk result
-            (file_of (R.disk rack.new).files self.old.file ≡ plain_log self.old.file (bodies ++ bytes_of entry.now ∷ [])) }
+            (file_of (R.disk rack.new).files self.old.file ≡ plain_log version self.old.file (bodies ++ bytes_of entry.now ∷ [])) }
         ensures any_moment { Told (R.disk rack.old) → (bodies : List (List ℕ)) → StandsFor self.old bodies (R.disk rack.old) →
             EachImage (R.disk rack.new) (R.disk rack.old).moment (LogsBeforeOrWith self.old.file bodies (bytes_of entry.now)) }
         ensures others { Told (R.disk rack.old) → OthersAsBefore self.old.file (R.disk rack.old) (R.disk rack.new) }

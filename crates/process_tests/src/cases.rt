@@ -50,6 +50,10 @@ const SETUP: &[u8] = b"\x01\x14\x00\x00\x01\x02\x00\x03add\x00\x00\x04ship\x02\x
 
 const START: &[u8] = b"\x01\x2c\x00\x01\x01\x00\x00\x00process a c x add 1 5 c y ship 1 1 end\n";
 
+// The start of a process of two steps on subsystem 0.
+const START_ADDS: &[u8] =
+    b"\x01\x2b\x00\x01\x01\x00\x00\x00process a c x add 1 5 c y add 1 6 end\n";
+
 const FIRST_DONE: &[u8] = b"\x01\x08\x00\x02\x01\x00\x00\x00\x00\x00\x00";
 
 const SECOND_DONE: &[u8] = b"\x01\x08\x00\x02\x01\x00\x00\x00\x01\x00\x00";
@@ -72,6 +76,12 @@ const ADDING_MORE: &[u8] =
     b"\x01\x19\x00\x10\x00\x00\x00\x00\x01\x00\x00\x00\x00\x00\x00\x00\x01\x00\x00\x00\x06\x00\x00\x00\x00\x00\x00\x00";
 
 const ADDED: &[u8] = b"\x01\x05\x00\x11\x00\x00\x00\x00";
+
+// The second step adds 6.
+const ADDING_AGAIN: &[u8] =
+    b"\x01\x19\x00\x10\x01\x00\x00\x00\x01\x00\x00\x00\x01\x00\x00\x00\x01\x00\x00\x00\x06\x00\x00\x00\x00\x00\x00\x00";
+
+const ADDED_BOTH: &[u8] = b"\x01\x05\x00\x11\x01\x00\x00\x00";
 
 // Parts of the store of subsystem 2.
 const SHIPMENTS: &[u8] = b"tpsl\x01\x03\x00\x00";
@@ -106,6 +116,8 @@ const ADD_IN_DOUBT: FileParts = &[COUNTERS, ADDING, CLOSED];
 const ADD_COMMITTED: FileParts = &[COUNTERS, ADDING, ADDED, CLOSED];
 
 const ADD_TAKEN_BACK: FileParts = &[COUNTERS, ADDING_TAKEN_BACK, CLOSED];
+
+const BOTH_IN_DOUBT: FileParts = &[COUNTERS, ADDING, ADDING_AGAIN, CLOSED];
 
 const MORE_COMMITTED: FileParts = &[COUNTERS, ADDING_MORE, ADDED, CLOSED];
 
@@ -150,6 +162,18 @@ const ADD_MORE: Effect = Effect {
     },
 };
 
+const ADD_AGAIN: Effect = Effect {
+    number: 1,
+    process: 1,
+    step: 1,
+    undo: false,
+    call: Call {
+        verb: Verb::Add,
+        key: 1,
+        amount: 6,
+    },
+};
+
 const SHIP: Effect = Effect {
     number: 1,
     process: 1,
@@ -162,7 +186,7 @@ const SHIP: Effect = Effect {
     },
 };
 
-pub const CASES: [Case; 16] = [
+pub const CASES: [Case; 20] = [
     Case {
         name: "nothing has happened",
         files: &[],
@@ -201,6 +225,48 @@ pub const CASES: [Case; 16] = [
         files: &[(0, DONE), (1, ADD_IN_DOUBT), (3, SHIP_IN_DOUBT)],
         opens: Opens::Found(3, &[ADD], &[SHIP]),
         after: &[(1, ADD_COMMITTED), (3, SHIP_COMMITTED)],
+    },
+    Case {
+        name: "all that is in doubt in one store stands in the journal",
+        files: &[
+            (
+                0,
+                &[JOURNAL, SETUP, START_ADDS, FIRST_DONE, SECOND_DONE, CLOSED],
+            ),
+            (1, BOTH_IN_DOUBT),
+        ],
+        opens: Opens::Found(3, &[ADD, ADD_AGAIN], &[]),
+        after: &[(1, &[COUNTERS, ADDING, ADDING_AGAIN, ADDED_BOTH, CLOSED])],
+    },
+    Case {
+        name: "all that is in doubt in one store is taken back by one gate",
+        files: &[
+            (0, &[JOURNAL, SETUP, START_ADDS, CLOSED]),
+            (1, BOTH_IN_DOUBT),
+        ],
+        opens: Opens::Found(1, &[], &[]),
+        after: &[(1, &[COUNTERS, ADDING_TAKEN_BACK, ADDING_AGAIN, CLOSED])],
+    },
+    Case {
+        name: "of two that are in doubt in one store the journal has the first alone",
+        files: &[
+            (0, &[JOURNAL, SETUP, START_ADDS, FIRST_DONE, CLOSED]),
+            (1, BOTH_IN_DOUBT),
+        ],
+        opens: Opens::Differs(0, 1, None, Some(ADD)),
+        after: &[],
+    },
+    Case {
+        name: "a commit of the first of two that are in doubt",
+        files: &[
+            (
+                0,
+                &[JOURNAL, SETUP, START_ADDS, FIRST_DONE, SECOND_DONE, CLOSED],
+            ),
+            (1, &[COUNTERS, ADDING, ADDING_AGAIN, ADDED, CLOSED]),
+        ],
+        opens: Opens::Refused(OpenError::BadBook(1, 3)),
+        after: &[],
     },
     Case {
         name: "other amounts are in doubt than the journal has, and the book lacks its effect",

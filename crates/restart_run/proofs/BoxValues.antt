@@ -30,7 +30,7 @@ read_effects (Ok b) = b.book
 read_effects (Err e) = []
 
 -- a file is read as one book
-one_read : (kind : Kind) (q : ℕ) (one two : List Effect) (files : FileSet) → IsReadAs kind q one None files → IsReadAs kind q two None files → one ≡ two
+one_read : (kind : Kind) (q : ℕ) (one two : List Effect) (files : FileSet) → IsReadAs kind q one [] files → IsReadAs kind q two [] files → one ≡ two
 one_read kind q one two files is other = ap read_effects (sym is ∙ other)
 
 module _ {B : Type 0} (box : Resources B) (c : Catalog) (h : History) where
@@ -40,7 +40,7 @@ module _ {B : Type 0} (box : Resources B) (c : Catalog) (h : History) where
       ap (λ k. k ∷ map (λ (x : Opened B). x.kind) stores) (sym (each zero s refl)) ∙ ap (λ ks. box.sort s.resource ∷ ks) (kinds_same stores (λ q x at. each (suc q) x at))
 
   module _ (law : BooksAreReadBack) (stores : List (Opened B)) (files : FileSet) (fits : EachFits box stores) (boxes : AreBoxes box.sort (map (λ s. s.resource) stores))
-      (none : AtEach (λ q s. s.doubt ≡ None) stores) (books : AtEach (λ q s. s.book ≡ effects c.ops h q) stores)
+      (none : AtEach (λ q s. s.doubt ≡ []) stores) (books : AtEach (λ q s. s.book ≡ effects c.ops h q) stores)
       (good : AtEach (λ q s. IsGoodBook s.kind s.book s.doubt) stores) (exactly : AreExactly c h files) where
     eight : length stores ≡ 8
     eight = sym (length-map (map (λ (s : Opened B). s.resource) stores) box.sort ∙ length-map stores (λ (s : Opened B). s.resource)) ∙ ap length boxes
@@ -50,12 +50,12 @@ module _ {B : Type 0} (box : Resources B) (c : Catalog) (h : History) where
         (append-nil (map (λ (s : Opened B). s.kind) stores) ∙ (kinds_same stores (λ q s at. (fits q s at).kind) ∙ boxes))
 
     -- the file of a store is read as the effects of the history
-    read_as : (q : ℕ) (s : Opened B) → slice_get stores q ≡ Some s → IsReadAs (kind_of q) (q + 1) (effects c.ops h q) None files
+    read_as : (q : ℕ) (s : Opened B) → slice_get stores q ≡ Some s → IsReadAs (kind_of q) (q + 1) (effects c.ops h q) [] files
     read_as q s at =
         let low : q < 8 = (let within = slice_get_within stores q s at in omega (arith, within, eight)) in
-        law (kind_of q) (q + 1) (effects c.ops h q) None files
-        (subst (λ k. IsGoodBook k (effects c.ops h q) None) (kinds_are q s at)
-        (subst (λ es. IsGoodBook s.kind es None) (books q s at) (subst (λ d. IsGoodBook s.kind s.book d) (none q s at) (good q s at))))
+        law (kind_of q) (q + 1) (effects c.ops h q) [] files
+        (subst (λ k. IsGoodBook k (effects c.ops h q) []) (kinds_are q s at)
+        (subst (λ es. IsGoodBook s.kind es []) (books q s at) (subst (λ d. IsGoodBook s.kind s.book d) (none q s at) (good q s at))))
         (exactly.books q low)
 
     store_of : (q : ℕ) (b : B) (o : Option (Opened B)) → slice_get stores q ≡ o → option_map (λ (s : Opened B). s.resource) o ≡ Some b → (s : Opened B) × (slice_get stores q ≡ Some s) × (s.resource ≡ b)

@@ -1,5 +1,5 @@
 -- What boxes that are handed back have in them.
-use Rattle.std.specs.Prelude.{◌≡◌, ◌<◌, ◌+◌, ℕ, ℤ, List, None}
+use Rattle.std.specs.Prelude.{◌≡◌, ◌<◌, ◌+◌, ℕ, ℤ, List, []}
 use Rattle.process_disk.specs.Disk.{FileSet}
 use Rattle.resource_box.specs.Meaning.{value_at}
 use Rattle.subsystem_store.specs.declared.effect.Effect.{Effect}
@@ -16,4 +16,4 @@ HaveValues values_of books boxes =
 -- where the files are read as books with nothing in doubt, each box has the values of its book
 abbrev pub HaveValuesOf : {B : Type 0} → (B → List (ℕ × ℤ)) → FileSet → List B → Type 0
 HaveValuesOf values_of files boxes = (books : ℕ → List Effect)
-    → ((q : ℕ) → q < 8 → IsReadAs (kind_of q) (q + 1) (books q) None files) → HaveValues values_of books boxes
+    → ((q : ℕ) → q < 8 → IsReadAs (kind_of q) (q + 1) (books q) [] files) → HaveValues values_of books boxes

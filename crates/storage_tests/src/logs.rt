@@ -6,7 +6,7 @@ use std::alloc::Global;
 use std::process::Abort;
 use std::test::Fail;
 
-// File 3: a header, three records behind open gates, and a closed gate.
+// File 3: a header of version 1, three records behind open gates, and a closed gate.
 const FILE: [u8; 23] = [
     0x74, 0x70, 0x73, 0x6c, 0x01, 0x03, 0x00, 0x00, // header
     0x01, 0x02, 0x00, b'h', b'i', // record 1
@@ -70,9 +70,11 @@ const CUTS: [(usize, usize, Result<u32, LogError>); 6] = [
 ];
 
 // The file with another byte at a place.
-const DAMAGES: [(usize, u8, Result<u32, LogError>); 13] = [
+const DAMAGES: [(usize, u8, Result<u32, LogError>); 15] = [
     (0, 0x75, Err(LogError::BadHeader)),
-    (4, 0x02, Err(LogError::BadHeader)),
+    (4, 0x00, Err(LogError::BadHeader)),
+    (4, 0x02, Ok(3)),
+    (4, 0x03, Err(LogError::BadHeader)),
     (5, 0x04, Err(LogError::BadHeader)),
     (6, 0x01, Err(LogError::BadHeader)),
     (7, 0x01, Err(LogError::BadHeader)),
@@ -176,8 +178,8 @@ fn two_bodies(rt: &impl Abort, alloc: Global, retract: bool) -> Result<MemoryRac
     log.append(&mut rack, b"one")?;
     log.append(&mut rack, b"three")?;
     if retract {
-        log.retract(&mut rack)?;
-        assert!(rt; !log.can_retract());
+        log.retract(&mut rack, 1, 8)?;
+        assert_eq!(rt; log.count(), 1);
     }
     Ok(rack)
 }
@@ -234,13 +236,40 @@ fn a_stop_leaves_all_staged_bodies_or_none(rt: HostRuntime) -> Result<(), Fail> 
     log.append_staged(&mut rack)?;
     assert_eq!(rt; rack.calls(), 6);
     assert_eq!(rt; log.count(), 3);
-    assert!(rt; log.can_retract());
     stop(&rt, alloc, &rack, &STAGED);
     let mut buf = [0; 40];
     assert_eq!(rt; rack.read(3, 0, &mut buf), Ok(23));
+    assert_eq!(rt; &buf[..8], b"tpsl\x02\x03\x00\x00".as_slice());
     assert_eq!(rt; &buf[8..13], &FILE[8..13]);
     assert_eq!(rt; &buf[13..16], b"\x01\x00\x00".as_slice());
     assert_eq!(rt; &buf[16..23], &FILE[16..]);
+    Ok(())
+}
+
+// A stop within the two calls of a `retract` of two bodies that were staged together, calls 10 and 11, and how many bodies it leaves.
+const RETRACTS_OF_TWO: [(u32, u32, u8, u32); 6] = [
+    (10, 0, 0x00, 1),
+    (10, 0, 0x07, 3),
+    (10, 1, 0x07, 1),
+    (11, 0, 0xff, 3),
+    (11, 0, 0x00, 1),
+    (11, 1, 0xff, 1),
+];
+
+#[test]
+fn a_stop_within_a_retract_leaves_both_staged_bodies_or_none(rt: HostRuntime) -> Result<(), Fail> {
+    let alloc = rt.alloc();
+    let mut rack = MemoryRack::new(alloc, Vec::new(alloc))?;
+    let mut log = Log::create(alloc, &mut rack, 3)?;
+    log.append(&mut rack, b"one")?;
+    log.stage(b"two");
+    log.stage(b"three");
+    log.append_staged(&mut rack)?;
+    assert_eq!(rt; log.count(), 3);
+    log.retract(&mut rack, 2, 14)?;
+    assert_eq!(rt; log.count(), 1);
+    assert_eq!(rt; rack.calls(), 12);
+    stop(&rt, alloc, &rack, &RETRACTS_OF_TWO);
     Ok(())
 }
 
@@ -254,7 +283,7 @@ fn a_body_is_appended_in_the_place_of_one_taken_back(rt: HostRuntime) -> Result<
     let (last, bodies) = Log::open(alloc, &mut rack, 3)?;
     assert_eq!(rt; bodies.len(), 2);
     assert_eq!(rt; bodies[1].bytes(), b"other".as_slice());
-    assert!(rt; last.can_retract());
+    assert_eq!(rt; last.count(), 2);
     Ok(())
 }
 

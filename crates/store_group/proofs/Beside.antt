@@ -22,7 +22,6 @@ pub stands_beside : {B : Type 0} (stores : List (Opened B)) (log : LogState) (bo
 stands_beside stores log bodies old new honest honest_new others run stands = record {
   count = stands.count;
   end = stands.end;
-  last = stands.last;
   read = subst (IsLog log.file bodies) (sym (run.read.others log.file others)) stands.read;
   each = each_now new (Logs log.file bodies) honest_new (λ c image.
       now_each new old.moment (Logs log.file bodies) honest_new run.follow.later (images_beside stores log bodies old new honest others run stands) c image);

@@ -1,6 +1,6 @@
 -- Stores that change one after another, each in its place.
-use Rattle.std.proofs.Common.{◌≡◌, ◌≢◌, ◌⊎◌, inl, inr, ℕ, zero, suc, ◌+◌, ◌<◌, ◌≤◌, List, [], ◌∷◌, length, Option, None, Some, refl, sym, ◌∙◌, ap, subst, arith}
-use Rattle.std.specs.Prelude.{Err, IfSome, Ok, OnErr, Result, get_or, slice_set, unwrap_or}
+use Rattle.std.proofs.Common.{◌≡◌, ◌≢◌, ◌⊎◌, inl, inr, ℕ, zero, suc, ◌+◌, ◌<◌, ◌≤◌, List, [], ◌∷◌, length, Some, refl, sym, ◌∙◌, ap, subst, arith}
+use Rattle.std.specs.Prelude.{Err, Ok, OnErr, Result, get_or, slice_set, unwrap_or}
 use Rattle.std.specs.List.{slice_get}
 use Rattle.std.proofs.lemmas.Bool.{cases_eq}
 use Rattle.std.proofs.lemmas.Option.{none-some, slice_get-get_or, slice_get_within}
@@ -102,11 +102,6 @@ of_set P xs n y all own q s at = by (cases_eq q n)
         let was : slice_get xs n ≡ Some (get_or xs n y) = slice_get-get_or xs n y (omega (arith, within, here, set_count xs n y)) in
         subst P (one_there (slice_set xs n y) n y s (set_there xs n (get_or xs n y) y was) (subst (λ k. slice_get (slice_set xs n y) k ≡ Some s) here at)) own
     by (inr other) = all q s (sym (set_others xs n q y other) ∙ at)
-
--- what holds of something that may be there, where it is there
-pub if_each : {A : Type 0} (o : Option A) (P : A → Type 0) → ((x : A) → o ≡ Some x → P x) → IfSome o P
-if_each None P each = tt
-if_each (Some x) P each = each x refl
 
 -- what holds in any case holds at Err
 pub on_err : {T E : Type 0} {P : Type 0} (r : Result T E) → P → OnErr r P

@@ -9,7 +9,7 @@ use Rattle.process_disk.proofs.Images.{each_then, run_none, run_so, run_then}
 use Rattle.gate_log.specs.LogFile.{IsLog}
 use Rattle.gate_log.proofs.Standing.{stands_still}
 use Rattle.gate_log.proofs.StagedImages.{each_file_over, written_still, on_disk_still, opened_still}
-use Rattle.subsystem_store.specs.Bodies.{store_bodies}
+use Rattle.subsystem_store.specs.Bodies.{SomeBodies}
 use Rattle.subsystem_store.specs.Opened.{Opened, Stands}
 use Rattle.store_group.specs.Groups.{AreInOrder, OfEach, SameButStores, HasWritten, HasOnDisk, IsOpenAt}
 
@@ -34,36 +34,49 @@ pub record IsOfFile {B : Type 0} (P : Opened B → Disk → Type 0) (Image : Ope
 
 -- the file is the log of the book with what is in doubt; or of that with what is staged
 abbrev pub FileIsBefore : {B : Type 0} → Opened B → List ℕ → Type 0
-FileIsBefore s file = IsLog s.log.file (store_bodies s.book s.doubt) file
+FileIsBefore s file = SomeBodies s.book s.doubt (λ bodies. IsLog s.log.file bodies file)
 
 abbrev pub FileIsEither : {B : Type 0} → Opened B → List ℕ → Type 0
-FileIsEither s file = IsLog s.log.file (store_bodies s.book s.doubt) file ⊎ IsLog s.log.file (store_bodies s.book s.doubt ++ s.log.staged) file
+FileIsEither s file = SomeBodies s.book s.doubt (λ bodies. IsLog s.log.file bodies file ⊎ IsLog s.log.file (bodies ++ s.log.staged) file)
+
+-- a store that stands does so while other files change
+stands_kept : {B : Type 0} (k : ℕ) (s : Opened B) (old new : Disk) → IsHonest old → IsHonest new → s.log.file ≢ k → OthersAsBefore k old new → Stands s old → Stands s new
+stands_kept k s old new honest honest_new other run stands =
+    record { bodies = stands.bodies; of = stands.of; so = stands_still k s.log stands.bodies old new honest honest_new other run stands.so }
+
+-- and each image of its file is the log
+stands_each : {B : Type 0} (s : Opened B) (disk : Disk) → Stands s disk → EachImage disk disk.moment (λ files. FileIsBefore s (file_of files s.log.file))
+stands_each s disk stands = record { has = λ files left. record { bodies = stands.bodies; of = stands.of; so = stands.so.each.has files left } }
+
+stands_either : {B : Type 0} (s : Opened B) (disk : Disk) → Stands s disk → EachImage disk disk.moment (λ files. FileIsEither s (file_of files s.log.file))
+stands_either s disk stands = record { has = λ files left. record { bodies = stands.bodies; of = stands.of; so = inl (stands.so.each.has files left) } }
 
 -- So it is of a store that stands,
 pub stands_of_file : {B : Type 0} → IsOfFile {B = B} Stands FileIsBefore
-stands_of_file = record {
-  kept = λ k s old new honest honest_new other run stands. stands_still k s.log (store_bodies s.book s.doubt) old new honest honest_new other run stands;
-  each = λ s disk stands. stands.each;
-}
+stands_of_file = record { kept = stands_kept; each = stands_each }
 
 -- with what is staged behind its gate,
 pub written_of_file : {B : Type 0} → IsOfFile {B = B} HasWritten FileIsBefore
 written_of_file = record {
   kept = λ k s old new honest honest_new other run has. record {
-    stands = stands_still k s.log (store_bodies s.book s.doubt) old new honest honest_new other run has.stands;
-    written = λ some. written_still k s.log (store_bodies s.book s.doubt) old new honest honest_new other run (has.written some);
+    stands = stands_kept k s old new honest honest_new other run has.stands;
+    written = λ some.
+        let were = has.written some in
+        record { bodies = were.bodies; of = were.of; so = written_still k s.log were.bodies old new honest honest_new other run were.so };
   };
-  each = λ s disk has. has.stands.each;
+  each = λ s disk has. stands_each s disk has.stands;
 }
 
 -- on the disk,
 pub on_disk_of_file : {B : Type 0} → IsOfFile {B = B} HasOnDisk FileIsEither
 on_disk_of_file = record {
   kept = λ k s old new honest honest_new other run has. record {
-    stands = stands_still k s.log (store_bodies s.book s.doubt) old new honest honest_new other run has.stands;
-    there = λ some. on_disk_still k s.log (store_bodies s.book s.doubt) old new honest honest_new other run (has.there some);
+    stands = stands_kept k s old new honest honest_new other run has.stands;
+    there = λ some.
+        let are = has.there some in
+        record { bodies = are.bodies; of = are.of; so = on_disk_still k s.log are.bodies old new honest honest_new other run are.so };
   };
-  each = λ s disk has. record { has = λ files left. inl (has.stands.each.has files left) };
+  each = λ s disk has. stands_either s disk has.stands;
 }
 
 -- nothing is in a list, or something
@@ -75,15 +88,19 @@ none_or_some (x ∷ xs) = inr (λ is. absurd (cc))
 pub open_of_file : {B : Type 0} → IsOfFile {B = B} IsOpenAt FileIsEither
 open_of_file = record {
   kept = λ k s old new honest honest_new other run is. record {
-    none = λ none. stands_still k s.log (store_bodies s.book s.doubt) old new honest honest_new other run (is.none none);
-    some = λ some. opened_still k s.log (store_bodies s.book s.doubt) old new honest honest_new other run (is.some some);
+    none = λ none. stands_kept k s old new honest honest_new other run (is.none none);
+    some = λ some.
+        let opened = is.some some in
+        record { bodies = opened.bodies; of = opened.of; so = opened_still k s.log opened.bodies old new honest honest_new other run opened.so };
   };
   each = λ s disk is. by s disk is (none_or_some s.log.staged);
 }
   where
     by : {B : Type 0} (s : Opened B) (disk : Disk) → IsOpenAt s disk → (s.log.staged ≡ []) ⊎ (s.log.staged ≢ []) → EachImage disk disk.moment (λ files. FileIsEither s (file_of files s.log.file))
-    by s disk is (inl none) = record { has = λ files left. inl ((is.none none).each.has files left) }
-    by s disk is (inr some) = (is.some some).each
+    by s disk is (inl none) = stands_either s disk (is.none none)
+    by s disk is (inr some) =
+        let opened = is.some some in
+        record { has = λ files left. record { bodies = opened.bodies; of = opened.of; so = opened.so.each.has files left } }
 
 -- The stores below a place were called since the start, and the others weren't.
 pub record Progress {B : Type 0} (Before After : Opened B → Disk → Type 0) (Image : Opened B → List ℕ → Type 0) (stores : List (Opened B)) (place : ℕ) (start now : Disk) : Type 0 where

@@ -5,7 +5,6 @@ use Rattle.process_disk.specs.Images.{EachImage, AllAsBefore}
 use Rattle.process_disk.proofs.Images.{each_then, others_of_all}
 use Rattle.gate_log.proofs.Standing.{stands_still}
 use Rattle.gate_log.proofs.StagedImages.{each_still, staged_on_disk, staged_stands}
-use Rattle.subsystem_store.specs.Bodies.{store_bodies}
 use Rattle.subsystem_store.specs.Opened.{Opened, Stands}
 use Rattle.store_group.specs.Groups.{HasOnDisk, HasStaged, HasWritten, IsOpenAt, OfEach}
 
@@ -13,21 +12,29 @@ use Rattle.store_group.specs.Groups.{HasOnDisk, HasStaged, HasWritten, IsOpenAt,
 stands_on : {B : Type 0} (s : Opened B) (old new : Disk) → IsHonest old → IsHonest new → AllAsBefore old new → Stands s old → Stands s new
 stands_on s old new honest honest_new run stands =
     let k = s.log.file + 1 in
-    stands_still k s.log (store_bodies s.book s.doubt) old new honest honest_new (λ is. absurd (omega (arith, is))) (others_of_all k old new run) stands
+    record {
+      bodies = stands.bodies;
+      of = stands.of;
+      so = stands_still k s.log stands.bodies old new honest honest_new (λ is. absurd (omega (arith, is))) (others_of_all k old new run) stands.so;
+    }
 
 module _ {B : Type 0} (stores : List (Opened B)) (old new : Disk) (honest : IsHonest old) (honest_new : IsHonest new) (run : AllAsBefore old new) (only : Only new.files new.may_leave) where
   -- what is written is on the disk,
   pub all_on_disk : OfEach (λ s. HasWritten s old) stores → OfEach (λ s. HasOnDisk s new) stores
   all_on_disk all q s at = record {
     stands = stands_on s old new honest honest_new run (all q s at).stands;
-    there = λ some. staged_on_disk s.log (store_bodies s.book s.doubt) old new honest_new run only ((all q s at).written some);
+    there = λ some.
+        let were = (all q s at).written some in
+        record { bodies = were.bodies; of = were.of; so = staged_on_disk s.log were.bodies old new honest_new run only were.so };
   }
 
   -- and behind opened gates it is in the logs
   pub all_staged : OfEach (λ s. IsOpenAt s old) stores → OfEach (λ s. HasStaged s new) stores
   all_staged all q s at = record {
     none = λ none. stands_on s old new honest honest_new run ((all q s at).none none);
-    some = λ some. staged_stands s.log (store_bodies s.book s.doubt) old new honest_new run only ((all q s at).some some);
+    some = λ some.
+        let is = (all q s at).some some in
+        record { bodies = is.bodies; of = is.of; so = staged_stands s.log is.bodies old new honest_new run only is.so };
   }
 
 -- over a run, and then one that leaves all as it was, each image has what each has

@@ -4,7 +4,7 @@ use Rattle.std.specs.List.{slice_get}
 use Rattle.process_disk.specs.Disk.{Disk, FileSet, file_of}
 use Rattle.gate_log.specs.Staging.{with_staged}
 use Rattle.gate_log.specs.Standing.{StandsFor}
-use Rattle.subsystem_store.specs.Bodies.{store_bodies}
+use Rattle.subsystem_store.specs.Bodies.{SomeBodies}
 use Rattle.subsystem_store.specs.Opened.{Opened, Stands, IsStoreOf}
 use Rattle.subsystem_store.specs.Staged.{IsWritten, IsOnDisk, HasOpened, IsBeforeOrWith}
 
@@ -50,4 +50,4 @@ pub record IsOpenAt {B : Type 0} (s : Opened B) (disk : Disk) : Type 0 where
 -- that is on the disk: the file is the log of the book and of all that is staged.
 pub record HasStaged {B : Type 0} (s : Opened B) (disk : Disk) : Type 0 where
   pub none : s.log.staged ≡ [] → Stands s disk
-  pub some : s.log.staged ≢ [] → StandsFor (with_staged s.log) (store_bodies s.book s.doubt ++ s.log.staged) disk
+  pub some : s.log.staged ≢ [] → SomeBodies s.book s.doubt (λ bodies. StandsFor (with_staged s.log) (bodies ++ s.log.staged) disk)

@@ -1,50 +1,52 @@
 // The effects of a group in their stores: prepared together, and committed together.
-ghost use Rattle.std.specs.Prelude.{IfSome, IsErr, OnErr, OnOk, ◌≡◌};
+ghost use Rattle.std.specs.Prelude.{IsErr, OnErr, OnOk, ◌≡◌, ◌≢◌, []};
 ghost use Rattle.process_disk.specs.Disk.{Told};
 ghost use Rattle.process_disk.specs.Racks.{LeavesRack};
 ghost use Rattle.process_disk.specs.Images.{EachImage, RunBy};
 ghost use Rattle.subsystem_store.specs.Opened.{Fits, account_of};
 ghost use Rattle.store_group.specs.Groups.{OfEach, AreInOrder, AllStand, SameButStores};
-ghost use Rattle.store_group.specs.Events.{effect_for, BecomeEach, IsUnchanged, MayPrepare, MayPrepareEach, IsPrepared};
-ghost use Rattle.store_group.specs.Events.{IsCommitted, AreBeforeOrPrepared, AreBeforeOrCommitted, StagesEffect, StagesCommit};
-ghost use Rattle.store_group.specs.Events.{TakesEffect, TakesCommit, MayTake, MayTakeEach, MayTakeCommit};
+ghost use Rattle.store_group.specs.Events.{effects_for, BecomeEach, IsUnchanged, MayPrepare, MayPrepareEach, IsPrepared};
+ghost use Rattle.store_group.specs.Events.{IsCommitted, AreBeforeOrPrepared, AreBeforeOrCommitted, StagesEffects, StagesCommit};
+ghost use Rattle.store_group.specs.Events.{TakesEffects, TakesCommit, MayTake, MayTakeEach, MayTakeCommit};
 
+use crate::Effects;
 use crate::disk::put_on_disk;
 use gate_log::DiskFault;
 use process_disk::Rack;
 use resource_box::Resource;
 use subsystem_store::{Effect, Store};
 
-// The effect at a place.
-fn effect_for(effects: &[Option<Effect>], place: usize) -> Option<Effect>
-    ensures { result ≡ effect_for effects.now place }
+// The effects for the store at a place.
+fn effects_for(effects: &[Effects], place: usize) -> &[Effect]
+    ensures { result.now ≡ effects_for effects.now place }
 {
     match effects.get(place) {
-        Some(found) => *found,
-        None => None,
+        Some(found) => found.as_slice(),
+        None => &[],
     }
 }
 
-// Stages an effect, if there is one, and nothing else.
-fn stage_effect<B: Resource>(store: &mut Store<B>, effect: Option<Effect>)
-    requires may { IfSome effect (MayPrepare store.old) }
-    ensures { StagesEffect effect store.old store.new }
+// Stages the preparing of effects, if there are some, and nothing else.
+fn stage_effect<B: Resource>(store: &mut Store<B>, effects: &[Effect])
+    requires may { effects.now ≢ [] → MayPrepare store.old effects.now }
+    ensures { StagesEffects effects.now store.old store.new }
 {
-    match effect {
-        Some(effect) => store.stage_prepare(&effect),
-        None => store.unstage(),
+    if effects.is_empty() {
+        store.unstage();
+    } else {
+        store.stage_prepare(effects);
     }
 }
 
-// Takes a staged effect, if there is one.
-fn take_effect<B: Resource>(store: &mut Store<B>, effect: Option<Effect>)
-    requires may { IfSome effect (MayTake store.old) }
+// Takes staged effects, if there are some.
+fn take_effect<B: Resource>(store: &mut Store<B>, effects: &[Effect])
+    requires may { effects.now ≢ [] → MayTake store.old effects.now }
     requires fits { Fits B.Resource (account_of store.old) }
-    ensures takes { TakesEffect effect store.old store.new }
+    ensures takes { TakesEffects effects.now store.old store.new }
     ensures fits { Fits B.Resource (account_of store.new) }
 {
-    if let Some(effect) = effect {
-        store.take_prepared(effect);
+    if !effects.is_empty() {
+        store.take_prepared(effects);
     }
 }
 
@@ -52,10 +54,10 @@ fn take_effect<B: Resource>(store: &mut Store<B>, effect: Option<Effect>)
 fn stage_commit<B: Resource>(store: &mut Store<B>)
     ensures { StagesCommit store.old store.new }
 {
-    if store.in_doubt().is_some() {
-        store.stage_commit();
-    } else {
+    if store.in_doubt().is_empty() {
         store.unstage();
+    } else {
+        store.stage_commit();
     }
 }
 
@@ -66,33 +68,33 @@ fn take_commit<B: Resource>(store: &mut Store<B>)
     ensures takes { TakesCommit store.old store.new }
     ensures fits { Fits B.Resource (account_of store.new) }
 {
-    if store.in_doubt().is_some() {
+    if !store.in_doubt().is_empty() {
         store.take_committed();
     }
 }
 
-// Stages the effect at each place in the store there.
-fn stage_effects<B: Resource>(stores: &mut Vec<Store<B>>, effects: &[Option<Effect>])
+// Stages the effects at each place in the store there.
+fn stage_effects<B: Resource>(stores: &mut Vec<Store<B>>, effects: &[Effects])
     requires may { MayPrepareEach effects.now stores.old.items }
-    ensures { BecomeEach (λ q s t. StagesEffect (effect_for effects.now q) s t) stores.old.items stores.new.items }
+    ensures { BecomeEach (λ q s t. StagesEffects (effects_for effects.now q) s t) stores.old.items stores.new.items }
 {
     let mut place = 0;
     while place < stores.len() {
-        stage_effect(&mut stores[place], effect_for(effects, place));
+        stage_effect(&mut stores[place], effects_for(effects, place));
         place += 1;
     }
 }
 
-// Takes the staged effect at each place in the store there.
-fn take_effects<B: Resource>(stores: &mut Vec<Store<B>>, effects: &[Option<Effect>])
+// Takes the staged effects at each place in the store there.
+fn take_effects<B: Resource>(stores: &mut Vec<Store<B>>, effects: &[Effects])
     requires may { MayTakeEach effects.now stores.old.items }
     requires fits { OfEach (λ s. Fits B.Resource (account_of s)) stores.old.items }
-    ensures takes { BecomeEach (λ q s t. TakesEffect (effect_for effects.now q) s t) stores.old.items stores.new.items }
+    ensures takes { BecomeEach (λ q s t. TakesEffects (effects_for effects.now q) s t) stores.old.items stores.new.items }
     ensures fits { OfEach (λ s. Fits B.Resource (account_of s)) stores.new.items }
 {
     let mut place = 0;
     while place < stores.len() {
-        take_effect(&mut stores[place], effect_for(effects, place));
+        take_effect(&mut stores[place], effects_for(effects, place));
         place += 1;
     }
 }
@@ -122,12 +124,12 @@ fn take_commits<B: Resource>(stores: &mut Vec<Store<B>>)
     }
 }
 
-/// Prepares the effect at each place in the store there, if there is one, with two syncs for all. A crash leaves each store as it
-/// was or with its effect in doubt, whichever the others are. It takes no memory.
+/// Prepares the effects at each place in the store there, with two syncs for all. A crash leaves each store as it was or with all its
+/// effects in doubt, whichever the others are. It takes no memory.
 pub fn prepare_each<R: Rack, B: Resource>(
     stores: &mut Vec<Store<B>>,
     rack: &mut R,
-    effects: &[Option<Effect>],
+    effects: &[Effects],
 ) -> Result<(), DiskFault>
     requires order { AreInOrder stores.old.items }
     requires may { MayPrepareEach effects.now stores.old.items }
@@ -137,7 +139,7 @@ pub fn prepare_each<R: Rack, B: Resource>(
     ensures any_moment { Told (R.disk rack.old)
         → EachImage (R.disk rack.new) (R.disk rack.old).moment (AreBeforeOrPrepared effects.now stores.old.items) }
     ensures others { Told (R.disk rack.old) → RunBy (SameButStores stores.old.items) (R.disk rack.old) (R.disk rack.new) }
-    ensures ok { OnOk result (BecomeEach (λ q s t. IsPrepared (effect_for effects.now q) s t) stores.old.items stores.new.items) }
+    ensures ok { OnOk result (BecomeEach (λ q s t. IsPrepared (effects_for effects.now q) s t) stores.old.items stores.new.items) }
     ensures err { OnErr result (BecomeEach (λ q s t. IsUnchanged s t) stores.old.items stores.new.items) }
     ensures fits { OfEach (λ s. Fits B.Resource (account_of s)) stores.new.items }
     ensures rack { LeavesRack R.Rack rack.old rack.new (IsErr result) }
@@ -148,8 +150,8 @@ pub fn prepare_each<R: Rack, B: Resource>(
     Ok(())
 }
 
-/// Commits what is in doubt in each store, with two syncs for all. A crash leaves each store as it was or with its effect among
-/// the committed ones, whichever the others are.
+/// Commits what is in doubt in each store, with two syncs for all. A crash leaves each store as it was or with all that was in doubt
+/// among the committed ones, whichever the others are.
 pub fn commit_each<R: Rack, B: Resource>(
     stores: &mut Vec<Store<B>>,
     rack: &mut R,

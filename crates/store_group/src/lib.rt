@@ -5,11 +5,13 @@
 //! leaves each store as it was or with all that is staged in it, whichever the others are (`specs/Groups`). The layer above
 //! knows that any of these is sound for its history.
 //!
-//! `prepare_each` prepares an effect in each of several stores so, and `commit_each` commits what is in doubt in each
+//! `prepare_each` prepares effects in each of several stores so, and `commit_each` commits what is in doubt in each
 //! (`specs/Events`).
 #![tactic(auto)]
 
 mod disk;
+mod effects;
 mod events;
 
+pub use effects::Effects;
 pub use events::{commit_each, prepare_each};

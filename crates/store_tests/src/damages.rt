@@ -1,5 +1,5 @@
-// The file of one committed effect, whole and damaged at each place.
-use crate::files::{counters, must, rack_of, whole_file};
+// The file of one committed effect, whole and damaged at each place, and commits of several.
+use crate::files::{counters, must, rack_of, two_prepared_file, whole_file};
 use process_disk::MemoryRack;
 use std::alloc::Global;
 use std::process::Abort;
@@ -13,7 +13,7 @@ fn a_file_of_one_committed_effect_is_opened(rt: HostRuntime) {
         panic!(rt; "no store");
     };
     assert_eq!(rt; store.book().len(), 1);
-    assert!(rt; store.in_doubt().is_none());
+    assert!(rt; store.in_doubt().is_empty());
     assert_eq!(rt; store.look(1), 5);
 }
 
@@ -83,4 +83,30 @@ fn a_damage_at_each_place_has_its_answer(rt: HostRuntime) {
         }
     }
     assert_eq!(rt; covered, whole_file().len());
+}
+
+// The file with two effects in doubt and a commit of this number behind them.
+fn committed_by(rt: &impl Abort, alloc: Global, number: u8) -> Vec<u8> {
+    let doubt = two_prepared_file();
+    assert!(rt; !doubt.is_empty());
+    let mut file = must(rt, doubt[..doubt.len() - 1].to_vec(alloc));
+    must(
+        rt,
+        file.extend_from_slice(&[0x01, 0x05, 0x00, 0x11, number, 0x00, 0x00, 0x00, 0x00]),
+    );
+    file
+}
+
+#[test]
+fn a_commit_is_of_all_that_are_prepared(rt: HostRuntime) {
+    let alloc = rt.alloc();
+    for (number, want) in [
+        (0, Err(StoreError::BadBook(5))),
+        (1, Err(StoreError::BadBook(5))),
+        (2, Ok(3)),
+        (3, Err(StoreError::BadBook(5))),
+    ] {
+        let mut rack = rack_of(&rt, alloc, &committed_by(&rt, alloc, number));
+        assert_eq!(rt; count(&rt, alloc, &mut rack), want, "a commit of {number}");
+    }
 }

@@ -3,12 +3,14 @@ ghost use Rattle.std.specs.Prelude.{◌≡◌, [], false};
 ghost use Rattle.process_disk.specs.Disk.{Told, file_of};
 ghost use Rattle.subsystem_store.specs.Opened.{Fits, account_of};
 
-use crate::files::{counters, is_file, must, prepared_file, rack_of, whole_file};
+use crate::files::{
+    counters, is_file, must, prepared_file, rack_of, two_prepared_file, whole_file,
+};
 use process_disk::{MemoryRack, Rack};
 use resource_box::{Call, Resource, Verb};
 use std::alloc::Global;
 use std::process::Abort;
-use store_group::{commit_each, prepare_each};
+use store_group::{Effects, commit_each, prepare_each};
 use subsystem_store::{Effect, Store};
 
 // Adds 5 at key 1.
@@ -72,7 +74,7 @@ fn committed<H: Abort, R: Rack, B: Resource>(
         panic!(rt; "no memory");
     };
     stores.push_reserved(store);
-    let Ok(()) = prepare_each(&mut stores, rack, &[Some(effect)]) else {
+    let Ok(()) = prepare_each(&mut stores, rack, &[Effects::new(Some(effect))]) else {
         panic!(rt; "not prepared");
     };
     let Ok(()) = commit_each(&mut stores, rack) else {
@@ -97,8 +99,21 @@ fn a_committed_effect_is_the_file_and_bars_a_take_of_more(rt: HostRuntime) {
     assert!(rt; is_file(&rt, alloc, &mut rack, whole_file()));
 }
 
-// A stop within a call of the `roll_back`, calls 4 and 5, and whether it leaves the effect in doubt: call 0 writes the file, and
-// `open` makes three.
+// Takes 1 at key 1, for another process.
+const TAKE_BESIDE: Effect = Effect {
+    number: 2,
+    process: 2,
+    step: 0,
+    undo: false,
+    call: Call {
+        verb: Verb::Take,
+        key: 1,
+        amount: 1,
+    },
+};
+
+// A stop within a call of the `roll_back`, calls 4 and 5, and whether it leaves what was in doubt: call 0 writes the file, and `open`
+// makes three.
 const STOPS: [(u32, u32, u8, bool); 8] = [
     (4, 0, 0x00, false),
     (4, 0, 0x77, true),
@@ -110,50 +125,56 @@ const STOPS: [(u32, u32, u8, bool); 8] = [
     (5, 1, 0x77, false),
 ];
 
-// A rack whose file 1 had adding committed, and taking prepared and taken back.
-fn rolled_back<H: Abort>(rt: &H, alloc: Global) -> MemoryRack {
-    let mut rack = rack_of(rt, alloc, prepared_file());
+// A rack whose file 1 had these bytes, and what was in doubt in it taken back.
+fn rolled_back<H: Abort>(rt: &H, alloc: Global, file: &[u8]) -> MemoryRack {
+    let mut rack = rack_of(rt, alloc, file);
     let Ok(mut store) = Store::open(alloc, &mut rack, 1, counters(rt, alloc)) else {
         panic!(rt; "no store");
     };
-    if store.in_doubt().is_none() {
+    if store.in_doubt().is_empty() {
         panic!(rt; "nothing in doubt");
     }
     must(rt, store.roll_back(&mut rack));
+    assert!(rt; store.in_doubt().is_empty());
     assert_eq!(rt; store.look(1), 5);
     rack
 }
 
-// What the store of file 1 has in doubt beside the first effect, if it is one.
-fn doubt_beside(rt: &impl Abort, alloc: Global, rack: &mut MemoryRack) -> Option<Option<Effect>> {
+// Whether the store of file 1 has the first effect alone in its book, and these in doubt.
+fn has_in_doubt(rt: &impl Abort, alloc: Global, rack: &mut MemoryRack, want: &[Effect]) -> bool {
     let Ok(store) = Store::open(alloc, rack, 1, counters(rt, alloc)) else {
-        return None;
+        return false;
     };
-    if store.book() != [ADD].as_slice() {
-        return None;
-    }
-    Some(store.in_doubt().copied())
+    store.book() == [ADD].as_slice() && store.in_doubt() == want
 }
 
-// What a stop within a call leaves in doubt.
-fn expect_stop<H: Abort>(rt: &H, alloc: Global, rack: &MemoryRack, stop: (u32, u32, u8, bool)) {
+// What a stop within a call leaves in doubt: all that was, or nothing.
+fn expect_stop<H: Abort>(
+    rt: &H,
+    alloc: Global,
+    rack: &MemoryRack,
+    stop: (u32, u32, u8, bool),
+    doubt: &[Effect],
+) {
     let (call, keep, fill, is_left) = stop;
     assert!(rt; u64::from(call) < rack.calls());
     let mut left = must(rt, rack.stopped(alloc, call, keep, fill));
-    let want = if is_left { Some(TAKE) } else { None };
-    assert_eq!(rt;
-        doubt_beside(rt, alloc, &mut left),
-        Some(want),
-        "call {call}"
-    );
+    let want = if is_left { doubt } else { &[] };
+    assert!(rt; has_in_doubt(rt, alloc, &mut left, want), "call {call}");
+}
+
+// What stops within the roll back of the store of a file leave in doubt.
+fn expect_stops<H: Abort>(rt: &H, alloc: Global, file: &[u8], doubt: &[Effect]) {
+    let rack = rolled_back(rt, alloc, file);
+    assert_eq!(rt; rack.calls(), 6);
+    for stop in &STOPS {
+        expect_stop(rt, alloc, &rack, *stop, doubt);
+    }
 }
 
 #[test]
-fn a_stop_within_a_roll_back_leaves_the_effect_in_doubt_or_not(rt: HostRuntime) {
+fn a_stop_within_a_roll_back_leaves_all_in_doubt_or_nothing(rt: HostRuntime) {
     let alloc = rt.alloc();
-    let rack = rolled_back(&rt, alloc);
-    assert_eq!(rt; rack.calls(), 6);
-    for stop in &STOPS {
-        expect_stop(&rt, alloc, &rack, *stop);
-    }
+    expect_stops(&rt, alloc, prepared_file(), &[TAKE]);
+    expect_stops(&rt, alloc, two_prepared_file(), &[TAKE, TAKE_BESIDE]);
 }

@@ -1,7 +1,8 @@
 -- That a box fits its book.
-use Rattle.std.specs.Prelude.{IfSome, IsTrue, fold, if◌then◌else◌, is_some, not, ◌&&◌, ◌||◌}
-use Rattle.std.proofs.Common.{◌≡◌, inl, inr, ℕ, ℤ, Bool, true, false, List, [], ◌∷◌, ◌++◌, Option, Some, None, All, refl, sym, ◌∙◌, ap, subst}
-use Rattle.std.proofs.lemmas.List.Elements.{All-weaker, All-push, All-same, All-head, All-tail, All-cons, All-nil}
+use Rattle.std.specs.Prelude.{IsTrue, fold, if◌then◌else◌, is_some, not, ◌&&◌, ◌||◌}
+use Rattle.std.proofs.Common.{◌≡◌, ◌⊎◌, inl, inr, ⊎_elim, ℕ, ℤ, Bool, true, false, List, [], ◌∷◌, ◌++◌, Option, Some, None, All, refl, sym, ◌∙◌, ap, subst}
+use Rattle.std.proofs.lemmas.List.Elements.{All-weaker, All-push, All-same, All-head, All-tail, All-cons, All-nil, All-append, All-contains}
+use Rattle.std.specs.List.{Contains}
 use Rattle.std.proofs.lemmas.List.Sums.{fold_push}
 use Rattle.std.proofs.lemmas.Bool.{cases_eq, eqb-true}
 use Rattle.resource_box.specs.declared.resource.Resource.{Ghosts as Resources}
@@ -13,13 +14,14 @@ use Rattle.resource_box.specs.Table.{applied, reverted}
 use Rattle.subsystem_store.specs.declared.effect.Undoable.{Undoable}
 use Rattle.subsystem_store.specs.Values.{Settled, values, settled, settle, unused, done, undone, take_last, take_later, is_of, can_undo, beside}
 use Rattle.subsystem_store.specs.Order.{may_follow}
+use Rattle.subsystem_store.specs.Room.{HasRoom}
 use Rattle.subsystem_store.specs.Opened.{Account, Fits}
 
 -- A box of the same values fits the same book, where no pair went.
 pub fits_still : {B : Type 0} (box : Resources B) (a new : Account B) → Fits box a → new.kind ≡ a.kind → new.book ≡ a.book → box.sort new.resource ≡ box.sort a.resource
     → ((key : ℕ) → value_at (box.meaning new.resource).items key ≡ value_at (box.meaning a.resource).items key)
     → ((key : ℕ) → has_key (box.meaning a.resource).items key ≡ true → has_key (box.meaning new.resource).items key ≡ true)
-    → IfSome new.doubt (λ (e : Effect). IsTrue (has_key (box.meaning new.resource).items e.call.key)) → IfSome new.ready (λ (key : ℕ). IsTrue (has_key (box.meaning new.resource).items key)) → Fits box new
+    → All (λ (e : Effect). IsTrue (has_key (box.meaning new.resource).items e.call.key)) new.doubt → All (λ (key : ℕ). IsTrue (has_key (box.meaning new.resource).items key)) new.ready → Fits box new
 fits_still box a new fits kind book sorts same keeps doubt room = record {
   kind = sorts ∙ fits.kind ∙ sym kind;
   values = λ key. same key ∙ fits.values key ∙ ap (λ (v : List (ℕ × ℤ)). value_at v key) (ap (λ k. values k a.book) (sym kind) ∙ ap (values new.kind) (sym book));
@@ -29,15 +31,12 @@ fits_still box a new fits kind book sorts same keeps doubt room = record {
   room = room;
 }
 
--- what is kept of the pair of the effect in doubt
-pub doubt_kept : (had has : ℕ → Type 0) (o : Option Effect) → ((key : ℕ) → had key → has key) → IfSome o (λ e. had e.call.key) → IfSome o (λ e. has e.call.key)
-doubt_kept had has None keeps room = tt
-doubt_kept had has (Some e) keeps room = keeps e.call.key room
+-- what is kept of the pairs of these effects, and of these keys
+pub doubt_kept : (had has : ℕ → Type 0) (effects : List Effect) → ((key : ℕ) → had key → has key) → All (λ (e : Effect). had e.call.key) effects → All (λ (e : Effect). has e.call.key) effects
+doubt_kept had has effects keeps = All-weaker (λ (e : Effect). had e.call.key) (λ (e : Effect). has e.call.key) (λ e kept. keeps e.call.key kept) effects
 
--- what is kept of one key's pair
-pub room_kept : (had has : ℕ → Type 0) (o : Option ℕ) → ((key : ℕ) → had key → has key) → IfSome o had → IfSome o has
-room_kept had has None keeps room = tt
-room_kept had has (Some key) keeps room = keeps key room
+pub room_kept : (had has : ℕ → Type 0) (keys : List ℕ) → ((key : ℕ) → had key → has key) → All had keys → All has keys
+room_kept had has keys keeps = All-weaker had has keeps keys
 
 -- Two maps that read alike do so when the same is set at a key.
 pub alike_set : (one two : List (ℕ × ℤ)) (key : ℕ) (v w : ℤ) → v ≡ w → ((k : ℕ) → value_at one k ≡ value_at two k) → (k : ℕ) → value_at (with_value one key v) k ≡ value_at (with_value two key w) k
@@ -88,7 +87,7 @@ has_settled kind s e key had = by e.undo (take_last e s.undoable)
 
 -- A box that fits, after an effect of which it has the key.
 pub fits_after : {B : Type 0} (box : Resources B) (a new : Account B) (us : List Undoable) (e : Effect) → Fits box a → us ≡ (settled a.kind a.book).undoable
-    → new.kind ≡ a.kind → new.book ≡ a.book ++ e ∷ [] → new.doubt ≡ None → new.ready ≡ a.ready → box.sort new.resource ≡ box.sort a.resource → has_key (box.meaning a.resource).items e.call.key ≡ true
+    → new.kind ≡ a.kind → new.book ≡ a.book ++ e ∷ [] → a.doubt ≡ e ∷ new.doubt → new.ready ≡ a.ready → box.sort new.resource ≡ box.sort a.resource → has_key (box.meaning a.resource).items e.call.key ≡ true
     → (box.meaning new.resource).items ≡ (settle (box.sort a.resource) (beside (box.meaning a.resource).items us) e).pairs → Fits box new
 fits_after {B} box a new us e fits undoable kind book doubt ready sorts has changed =
     let old = beside (box.meaning a.resource).items us in
@@ -103,9 +102,9 @@ fits_after {B} box a new us e fits undoable kind book doubt ready sorts has chan
       kind = sorts ∙ fits.kind ∙ sym kind;
       values = λ key. ap (λ (ps : List (ℕ × ℤ)). value_at ps key) of_kind ∙ after.values key ∙ sym (ap (λ (ps : List (ℕ × ℤ)). value_at ps key) all);
       ready = All-same Has new.book (a.book ++ e ∷ []) book (All-push Has a.book e (All-weaker Had Has (λ f had. keeps f.call.key had) a.book fits.ready) (keeps e.call.key has));
-      doubt_ready = subst (λ (o : Option Effect). IfSome o Has) (sym doubt) tt;
-      room = subst (λ (o : Option ℕ). IfSome o (λ key. has_key (box.meaning new.resource).items key ≡ true)) (sym ready)
-          (room_kept (λ key. has_key (box.meaning a.resource).items key ≡ true) (λ key. has_key (box.meaning new.resource).items key ≡ true) a.ready keeps fits.room);
+      doubt_ready = All-weaker Had Has (λ f had. keeps f.call.key had) new.doubt (All-tail Had e new.doubt (subst (All Had) doubt fits.doubt_ready));
+      room = subst (All (λ (key : ℕ). has_key (box.meaning new.resource).items key ≡ true)) (sym ready)
+          (All-weaker (λ (key : ℕ). has_key (box.meaning a.resource).items key ≡ true) (λ (key : ℕ). has_key (box.meaning new.resource).items key ≡ true) keeps a.ready fits.room);
     }
 
 -- and what may be undone after it
@@ -174,11 +173,12 @@ undoable_has P kind s (e ∷ book) so_far all = undoable_has P kind (settle kind
     by false o is = All-push Of s.undoable _ so_far (All-head P e book all)
 
 -- A box that fits has the key of each undo that may come.
-pub key_of_undo : {B : Type 0} (box : Resources B) (a : Account B) (undo : Effect) → Fits box a → can_undo a.kind a.book undo ≡ true → has_key (box.meaning a.resource).items undo.call.key ≡ true
+pub key_of_undo : {B : Type 0} (box : Resources B) (a : Account B) (undo : Effect) → Fits box a → can_undo a.kind (a.book ++ a.doubt) undo ≡ true → has_key (box.meaning a.resource).items undo.call.key ≡ true
 key_of_undo box a undo fits can =
     let Has : ℕ → Type 0 = λ key. has_key (box.meaning a.resource).items key ≡ true in
     let Of : Effect → Type 0 = λ e. Has e.call.key in
-    key_of_taken Has undo (settled a.kind a.book).undoable can (undoable_has Of a.kind unused a.book (All-nil (λ (u : Undoable). Of u.effect)) fits.ready)
+    key_of_taken Has undo (settled a.kind (a.book ++ a.doubt)).undoable can
+    (undoable_has Of a.kind unused (a.book ++ a.doubt) (All-nil (λ (u : Undoable). Of u.effect)) (All-append Of a.book a.doubt fits.ready fits.doubt_ready))
 
 -- where an undo may follow, it can be of something
 pub undo_follows : (kind : Kind) (book : List Effect) (undo : Effect) → may_follow kind book undo ≡ true → undo.undo ≡ true → can_undo kind book undo ≡ true
@@ -193,3 +193,20 @@ pub follows_by_undo : (above undo can : Bool) → above ≡ true → undo ≡ tr
 follows_by_undo true true can above undo = refl
 follows_by_undo true false can above undo = absurd cc
 follows_by_undo false undo can above undo_is = absurd cc
+
+-- A box that fits has the key of each effect that may come next, where it has that of a forward one.
+pub key_of_next : {B : Type 0} (box : Resources B) (a : Account B) (e : Effect) → Fits box a → may_follow a.kind (a.book ++ a.doubt) e ≡ true → (e.undo ≡ false → has_key (box.meaning a.resource).items e.call.key ≡ true)
+    → has_key (box.meaning a.resource).items e.call.key ≡ true
+key_of_next box a e fits follows forward = by e.undo refl
+  where
+    by : (u : Bool) → e.undo ≡ u → has_key (box.meaning a.resource).items e.call.key ≡ true
+    by true is = key_of_undo box a e fits (undo_follows a.kind (a.book ++ a.doubt) e follows is)
+    by false is = forward is
+
+-- and where room is made, it has the keys
+pub keys_of_room : {B : Type 0} (box : Resources B) (a : Account B) (effects : List Effect) → Fits box a → HasRoom a.ready effects
+    → All (λ (e : Effect). (e.undo ≡ true) ⊎ (has_key (box.meaning a.resource).items e.call.key ≡ true)) effects
+keys_of_room box a effects fits room =
+    let Has : ℕ → Type 0 = λ key. has_key (box.meaning a.resource).items key ≡ true in
+    All-weaker (λ (e : Effect). (e.undo ≡ true) ⊎ Contains a.ready e.call.key) (λ (e : Effect). (e.undo ≡ true) ⊎ Has e.call.key)
+    (λ e. ⊎_elim (λ undo. inl undo) (λ there. inr (All-contains Has a.ready e.call.key fits.room there))) effects room.keys

@@ -1,11 +1,12 @@
 -- The last forward effect that an undo can be of.
-use Rattle.std.specs.Prelude.{◌-◌, nat_lt, if◌then◌else◌, remove, slice_index_or, is_some}
+use Rattle.std.specs.Prelude.{◌-◌, nat_lt, ◌==◌, if◌then◌else◌, remove, slice_index_or, is_some}
 use Rattle.std.proofs.Common.{◌≡◌, ℕ, ◌+◌, ◌≤◌, ◌<◌, pos, Bool, true, false, List, [], ◌∷◌, ◌++◌, length, get_or, Option, Some, None, refl, sym, ◌∙◌, ap, subst, arith, add-one}
 use Rattle.subsystem_store.specs.declared.effect.Effect.{Effect}
 use Rattle.subsystem_store.specs.declared.effect.Undoable.{Undoable}
 use Rattle.subsystem_store.specs.Values.{is_of, take_last, take_later}
 use Rattle.subsystem_store.specs.Matching.{last_place, later_place}
-use Rattle.subsystem_store.specs.Order.{is_above}
+use Rattle.subsystem_store.specs.Order.{is_above, commits}
+use Rattle.subsystem_store.specs.Bodies.{last_number}
 
 -- with one more at the end
 pub last_place-push : (undo : Effect) (us : List Undoable) (u : Undoable) → last_place undo (us ++ u ∷ []) ≡ (if is_of undo u.effect then Some (length us) else last_place undo us)
@@ -55,6 +56,20 @@ above_last (e ∷ []) d number some = refl
 above_last (e ∷ next ∷ book) d number some =
     let place : length (e ∷ next ∷ book) - 1 ≡ (length (next ∷ book) - 1) + 1 = omega arith in
     above_last (next ∷ book) d number (omega arith) ∙ rw (place, add-one) refl
+
+pub commits_at_last : (doubt : List Effect) (d : Effect) (number : ℕ) → 1 ≤ length doubt → commits doubt number ≡ ((get_or doubt (length doubt - 1) d).number == number)
+commits_at_last [] d number some = absurd (omega arith)
+commits_at_last (e ∷ []) d number some = refl
+commits_at_last (e ∷ next ∷ doubt) d number some =
+    let place : length (e ∷ next ∷ doubt) - 1 ≡ (length (next ∷ doubt) - 1) + 1 = omega arith in
+    commits_at_last (next ∷ doubt) d number (omega arith) ∙ rw (place, add-one) refl
+
+pub last_number_at : (doubt : List Effect) (d : Effect) → 1 ≤ length doubt → last_number doubt ≡ (get_or doubt (length doubt - 1) d).number
+last_number_at [] d some = absurd (omega arith)
+last_number_at (e ∷ []) d some = refl
+last_number_at (e ∷ next ∷ doubt) d some =
+    let place : length (e ∷ next ∷ doubt) - 1 ≡ (length (next ∷ doubt) - 1) + 1 = omega arith in
+    last_number_at (next ∷ doubt) d (omega arith) ∙ rw (place, add-one) refl
 
 -- it has a place exactly where there is one
 pub placed_where_taken : (undo : Effect) (us : List Undoable) → is_some (last_place undo us) ≡ is_some (take_last undo us)

@@ -1,6 +1,6 @@
 -- The bodies of a store's records.
-use Rattle.std.specs.Prelude.{ℕ, ℤ, pos, negsuc, Bool, ◌&&◌, ◌==◌, int_lt, not, List, [], ◌∷◌, ◌++◌, length, take, drop, flat_map}
-use Rattle.std.specs.Prelude.{Option, Some, None, if◌then◌else◌, slice_index_or}
+use Rattle.std.specs.Prelude.{◌≡◌, ◌≢◌, ℕ, ℤ, pos, negsuc, Bool, ◌&&◌, ◌==◌, int_lt, not, List, [], ◌∷◌, ◌++◌, length, take, drop, map}
+use Rattle.std.specs.Prelude.{flat_map, All, Option, Some, None, if◌then◌else◌, slice_index_or}
 use Rattle.std.specs.Int.{to_le_bytes, from_le_bytes, cast_signed, cast_unsigned, w16, w32, w64}
 use Rattle.commute_table.specs.declared.op.Verb.{Verb}
 use Rattle.commute_table.specs.declared.op.Verb.TheVariants.{Add, Take, Look, Put, Hold, Free}
@@ -16,17 +16,40 @@ prepared_bytes e =
     16 ∷ to_le_bytes w32 e.number ++ to_le_bytes w32 e.process ++ to_le_bytes w16 e.step ++ (if e.undo then 1 else 0)
     ∷ verb_code e.call.verb ∷ to_le_bytes w32 e.call.key ++ to_le_bytes w64 (cast_unsigned w64 e.call.amount)
 
--- that the effect of a number is committed: 17 and the number
+-- that all effects up to that of a number are committed: 17 and the number
 abbrev pub committed_bytes : ℕ → List ℕ
 committed_bytes number = 17 ∷ to_le_bytes w32 number
 
--- the bodies of a store: two for each committed effect, and one for the effect in doubt
-abbrev pub doubt_bodies : Option Effect → List (List ℕ)
-doubt_bodies None = []
-doubt_bodies (Some e) = prepared_bytes e ∷ []
+-- the number of the last of these effects
+abbrev pub last_number : List Effect → ℕ
+last_number [] = 0
+last_number (e ∷ []) = e.number
+last_number (e ∷ next ∷ effects) = last_number (next ∷ effects)
 
-abbrev pub store_bodies : List Effect → Option Effect → List (List ℕ)
-store_bodies book doubt = flat_map (λ (e : Effect). prepared_bytes e ∷ committed_bytes e.number ∷ []) book ++ doubt_bodies doubt
+-- the bodies of effects that are prepared
+abbrev pub prepared_bodies : List Effect → List (List ℕ)
+prepared_bodies effects = map prepared_bytes effects
+
+-- those of effects that are committed together: each is prepared, and then all up to the last are committed
+abbrev pub group_bodies : List Effect → List (List ℕ)
+group_bodies group = prepared_bodies group ++ committed_bytes (last_number group) ∷ []
+
+-- the bodies of a store: those of each group that is committed, and those of what is in doubt
+abbrev pub store_bodies : List (List Effect) → List Effect → List (List ℕ)
+store_bodies groups doubt = flat_map group_bodies groups ++ prepared_bodies doubt
+
+-- These are the bodies of a store with this book and these effects in doubt. The book was committed in groups of one effect at least.
+pub record AreBodiesOf (book doubt : List Effect) (bodies : List (List ℕ)) : Type 0 where
+  pub groups : List (List Effect)
+  pub some : All (λ (group : List Effect). group ≢ []) groups
+  pub all : flat_map (λ (group : List Effect). group) groups ≡ book
+  pub are : bodies ≡ store_bodies groups doubt
+
+-- some bodies of such a store are so
+pub record SomeBodies (book doubt : List Effect) (P : List (List ℕ) → Type 0) : Type 0 where
+  pub bodies : List (List ℕ)
+  pub of : AreBodiesOf book doubt bodies
+  pub so : P bodies
 
 -- the verb of a code
 abbrev pub verb_of : ℕ → Verb

@@ -1,5 +1,5 @@
 -- Worked books.
-use Rattle.std.specs.Prelude.{◌≡◌, ℕ, ℤ, pos, Bool, true, false, List, [], ◌∷◌, Some, None, refl}
+use Rattle.std.specs.Prelude.{◌≡◌, ℕ, ℤ, pos, Bool, true, false, List, [], ◌∷◌, Some, None, Ok, refl}
 use Rattle.commute_table.specs.declared.op.Verb.{Verb}
 use Rattle.commute_table.specs.declared.op.Verb.TheVariants.{Add, Put}
 use Rattle.resource_box.specs.declared.call.Kind.TheVariants.{Counters, Cells}
@@ -7,8 +7,8 @@ use Rattle.resource_box.specs.Meaning.{value_at}
 use Rattle.subsystem_store.specs.declared.effect.Effect.{Effect}
 use Rattle.subsystem_store.specs.declared.effect.Record.TheVariants.{Prepared, Committed}
 use Rattle.subsystem_store.specs.Values.{values, can_undo}
-use Rattle.subsystem_store.specs.Order.{may_follow}
-use Rattle.subsystem_store.specs.Bodies.{prepared_bytes, committed_bytes, record_of}
+use Rattle.subsystem_store.specs.Order.{may_follow, commits, read_bodies, no_book}
+use Rattle.subsystem_store.specs.Bodies.{prepared_bytes, committed_bytes, group_bodies, record_of}
 
 -- effect number n of process 1 at key 1
 abbrev step_of : ℕ → ℕ → Bool → Verb → ℤ → Effect
@@ -69,3 +69,16 @@ commit_read_back = refl
 no_undo_of_2 : record_of (16 ∷ 0 ∷ 0 ∷ 0 ∷ 0 ∷ 1 ∷ 0 ∷ 0 ∷ 0 ∷ 0 ∷ 0 ∷ 2 ∷ 0 ∷ 1 ∷ 0 ∷ 0 ∷ 0 ∷ 5 ∷ 0 ∷ 0 ∷ 0 ∷ 0 ∷ 0 ∷ 0 ∷ 0 ∷ [])
     ≡ None
 no_undo_of_2 = refl
+
+-- two puts that are committed together: each is prepared, and then all up to the second are committed
+bodies_of_a_group : group_bodies two_puts
+    ≡ prepared_bytes (step_of 0 0 false Put (pos 5)) ∷ prepared_bytes (step_of 1 1 false Put (pos 9)) ∷ committed_bytes 1 ∷ []
+bodies_of_a_group = refl
+
+-- they are read back as a book of both
+group_read_back : read_bodies Cells 1 (group_bodies two_puts) no_book ≡ Ok (record { book = two_puts; doubt = [] })
+group_read_back = refl
+
+-- the number of the first of them commits nothing
+not_by_the_first : commits two_puts 0 ≡ false
+not_by_the_first = refl

@@ -1,5 +1,5 @@
 -- What an open store is.
-use Rattle.std.specs.Prelude.{◌≡◌, ◌⊎◌, ℕ, List, Option, IfSome, IsTrue, All}
+use Rattle.std.specs.Prelude.{◌≡◌, ◌⊎◌, ℕ, List, IsTrue, All}
 use Rattle.process_disk.specs.Disk.{Disk, FileSet}
 use Rattle.gate_log.specs.Standing.{LogState, Logs, StandsFor}
 use Rattle.resource_box.specs.declared.resource.Resource.{Ghosts as Resources}
@@ -7,25 +7,25 @@ use Rattle.resource_box.specs.declared.call.Kind.{Kind}
 use Rattle.resource_box.specs.Meaning.{value_at, has_key}
 use Rattle.subsystem_store.specs.declared.effect.Effect.{Effect}
 use Rattle.subsystem_store.specs.Values.{values}
-use Rattle.subsystem_store.specs.Bodies.{store_bodies}
+use Rattle.subsystem_store.specs.Bodies.{SomeBodies}
 use Rattle.subsystem_store.specs.Order.{Book}
 
--- What an account is seen as: the kind of its box, the box, the committed effects in order, the one in doubt, and the key at which
--- there is room for one more.
+-- What an account is seen as: the kind of its box, the box, the committed effects in order, those in doubt, and the keys at each of
+-- which there is room for one more.
 pub record Account (B : Type 0) : Type 0 where
   pub kind : Kind
   pub resource : B
   pub book : List Effect
-  pub doubt : Option Effect
-  pub ready : Option ℕ
+  pub doubt : List Effect
+  pub ready : List ℕ
 
 -- The box has the kind and the values of the book, and a pair of each key at which an effect may still be applied or undone.
 pub record Fits {B : Type 0} (box : Resources B) (a : Account B) : Type 0 where
   pub kind : box.sort a.resource ≡ a.kind
   pub values : (key : ℕ) → value_at (box.meaning a.resource).items key ≡ value_at (values a.kind a.book) key
   pub ready : All (λ (e : Effect). IsTrue (has_key (box.meaning a.resource).items e.call.key)) a.book
-  pub doubt_ready : IfSome a.doubt (λ (e : Effect). IsTrue (has_key (box.meaning a.resource).items e.call.key))
-  pub room : IfSome a.ready (λ (key : ℕ). IsTrue (has_key (box.meaning a.resource).items key))
+  pub doubt_ready : All (λ (e : Effect). IsTrue (has_key (box.meaning a.resource).items e.call.key)) a.doubt
+  pub room : All (λ (key : ℕ). IsTrue (has_key (box.meaning a.resource).items key)) a.ready
 
 -- the book of an account, with what is in doubt
 abbrev pub book_of : {B : Type 0} → Account B → Book
@@ -37,8 +37,8 @@ pub record Opened (B : Type 0) : Type 0 where
   pub kind : Kind
   pub resource : B
   pub book : List Effect
-  pub doubt : Option Effect
-  pub ready : Option ℕ
+  pub doubt : List Effect
+  pub ready : List ℕ
 
 -- the account of a store
 abbrev pub account_of : {B : Type 0} → Opened B → Account B
@@ -46,12 +46,12 @@ account_of s = record { kind = s.kind; resource = s.resource; book = s.book; dou
 
 -- The store's file is the log of its book and of what is in doubt, and so is each image of that file from now on.
 abbrev pub Stands : {B : Type 0} → Opened B → Disk → Type 0
-Stands s disk = StandsFor s.log (store_bodies s.book s.doubt) disk
+Stands s disk = SomeBodies s.book s.doubt (λ bodies. StandsFor s.log bodies disk)
 
--- file q of the set is the log of this book with this effect in doubt
-abbrev pub IsStoreOf : ℕ → List Effect → Option Effect → FileSet → Type 0
-IsStoreOf q book doubt files = Logs q (store_bodies book doubt) files
+-- file q of the set is the log of this book with these effects in doubt
+abbrev pub IsStoreOf : ℕ → List Effect → List Effect → FileSet → Type 0
+IsStoreOf q book doubt files = SomeBodies book doubt (λ bodies. Logs q bodies files)
 
 -- file q of the set is the log of one of two books with what is in doubt
-abbrev pub IsStoreOfEither : ℕ → List Effect × Option Effect → List Effect × Option Effect → FileSet → Type 0
+abbrev pub IsStoreOfEither : ℕ → List Effect × List Effect → List Effect × List Effect → FileSet → Type 0
 IsStoreOfEither q one two files = IsStoreOf q one.0 one.1 files ⊎ IsStoreOf q two.0 two.1 files

@@ -1,6 +1,6 @@
 -- The order of a store's records.
-use Rattle.std.specs.Prelude.{ℕ, ◌+◌, Bool, true, false, not, ◌&&◌, ◌||◌, ◌==◌, nat_lt, nat_le, List, [], ◌∷◌, ◌++◌, Option, Some}
-use Rattle.std.specs.Prelude.{None, Result, Ok, Err, if◌then◌else◌, is_none}
+use Rattle.std.specs.Prelude.{◌≡◌, ⊤, ℕ, ◌+◌, Bool, true, false, not, ◌&&◌, ◌||◌, ◌==◌, nat_lt, List, [], ◌∷◌, ◌++◌, length, Option, Some}
+use Rattle.std.specs.Prelude.{None, Result, Ok, Err, if◌then◌else◌}
 use Rattle.resource_box.specs.declared.call.Kind.{Kind}
 use Rattle.gate_log.specs.LogFile.{read_log}
 use Rattle.gate_log.specs.declared.errors.LogError.{LogError}
@@ -14,16 +14,16 @@ use Rattle.subsystem_store.specs.Bodies.{record_of}
 use Rattle.subsystem_store.specs.declared.effect.Record.{Record}
 use Rattle.subsystem_store.specs.declared.effect.Record.TheVariants.{Prepared, Committed}
 
--- the most records of a store
-abbrev pub most_records : ℕ
-most_records = 32768
+-- the most effects of a store, committed or in doubt
+abbrev pub most_effects : ℕ
+most_effects = 16384
 
--- Committed effects in order, and the one that is in doubt.
+-- Committed effects in order, and those that are in doubt.
 pub record Book : Type 0 where
   pub book : List Effect
-  pub doubt : Option Effect
+  pub doubt : List Effect
 
--- a number is above that of the last committed effect
+-- a number is above that of the last of these effects
 abbrev pub is_above : List Effect → ℕ → Bool
 is_above [] number = true
 is_above (e ∷ []) number = nat_lt e.number number
@@ -33,19 +33,29 @@ is_above (e ∷ next ∷ book) number = is_above (next ∷ book) number
 abbrev pub may_follow : Kind → List Effect → Effect → Bool
 may_follow kind book e = is_above book e.number && (not e.undo || can_undo kind book e)
 
+-- each of these effects may be prepared after those and the ones before it
+abbrev pub MayFollowEach : Kind → List Effect → List Effect → Type 0
+MayFollowEach kind before [] = ⊤
+MayFollowEach kind before (e ∷ effects) = (may_follow kind before e ≡ true) × MayFollowEach kind (before ++ e ∷ []) effects
+
+-- there is a place for one effect more
+abbrev pub has_place : List Effect → Bool
+has_place effects = nat_lt (length effects) most_effects
+
+-- a number commits what is in doubt: it is that of the last
+abbrev pub commits : List Effect → ℕ → Bool
+commits [] number = false
+commits (e ∷ []) number = e.number == number
+commits (e ∷ next ∷ doubt) number = commits (next ∷ doubt) number
+
 -- after one record more; or none where it is out of place
 abbrev pub after_prepared : Kind → Book → Effect → Option Book
 after_prepared kind b e =
-    if is_none b.doubt && may_follow kind b.book e then Some (record { book = b.book; doubt = Some e }) else None
+    if has_place (b.book ++ b.doubt) && may_follow kind (b.book ++ b.doubt) e
+    then Some (record { book = b.book; doubt = b.doubt ++ e ∷ [] }) else None
 
-abbrev pub after_committed : List Effect → Option Effect → ℕ → Option Book
-after_committed book None number = None
-after_committed book (Some e) number = if e.number == number then Some (record { book = book ++ e ∷ []; doubt = None }) else None
-
--- this commits what is in doubt
-abbrev pub commits : Option Effect → ℕ → Bool
-commits None number = false
-commits (Some e) number = e.number == number
+abbrev pub after_committed : List Effect → List Effect → ℕ → Option Book
+after_committed book doubt number = if commits doubt number then Some (record { book = book ++ doubt; doubt = [] }) else None
 
 abbrev pub after_record : Kind → Book → Record → Option Book
 after_record kind b (Prepared e) = after_prepared kind b e
@@ -53,7 +63,7 @@ after_record kind b (Committed number) = after_committed b.book b.doubt number
 
 -- after record n, whose body is read first
 abbrev pub placed : ℕ → Option Book → Result Book StoreError
-placed n (Some b) = if nat_le n most_records then Ok b else Err (BadBook n)
+placed n (Some b) = Ok b
 placed n None = Err (BadBook n)
 
 abbrev pub after_body : Kind → ℕ → Book → Option Record → Result Book StoreError
@@ -71,7 +81,7 @@ read_bodies kind n (body ∷ bodies) b = read_on (read_bodies kind (n + 1) bodie
 
 -- no effect
 abbrev pub no_book : Book
-no_book = record { book = []; doubt = None }
+no_book = record { book = []; doubt = [] }
 
 -- what a file's log says
 abbrev pub of_log : Kind → Result (List (List ℕ)) LogError → Result Book StoreError

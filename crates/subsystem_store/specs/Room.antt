@@ -1,28 +1,26 @@
--- How much room an effect in doubt takes.
-use Rattle.std.specs.Prelude.{ℕ, ◌+◌, ◌*◌, Option, Some, None, if◌then◌else◌}
+-- How much room effects in doubt take.
+use Rattle.std.specs.Prelude.{◌≡◌, ◌⊎◌, ◌≤◌, ⊤, ℕ, ◌+◌, true, List, [], ◌∷◌, ◌++◌, length, All, if◌then◌else◌}
+use Rattle.std.specs.List.{Contains}
+use Rattle.resource_box.specs.declared.call.Kind.{Kind}
 use Rattle.subsystem_store.specs.declared.effect.Effect.{Effect}
+use Rattle.subsystem_store.specs.Values.{can_undo}
 
--- places in the book: a forward effect needs its own and its undo's, which an undo has already
-abbrev pub room_of : Option Effect → ℕ
-room_of None = 0
-room_of (Some e) = if e.undo then 0 else 2
+-- how many of these are forward: each needs a place for its undo beside its own
+abbrev pub forwards : List Effect → ℕ
+forwards [] = 0
+forwards (e ∷ effects) = (if e.undo then 0 else 1) + forwards effects
 
--- places among the forward effects that aren't undone
-abbrev pub undos_of : Option Effect → ℕ
-undos_of None = 0
-undos_of (Some e) = if e.undo then 0 else 1
+-- how many are undos, each of which has its place already
+abbrev pub undos : List Effect → ℕ
+undos [] = 0
+undos (e ∷ effects) = (if e.undo then 1 else 0) + undos effects
 
--- how many records a store of this book has, with this in doubt
-abbrev pub records_of : ℕ → Option Effect → ℕ
-records_of committed None = 2 * committed
-records_of committed (Some e) = 2 * committed + 1
+-- each undo among these can be of something, of the book or of those before it
+abbrev pub UndosFind : Kind → List Effect → List Effect → Type 0
+UndosFind kind book [] = ⊤
+UndosFind kind book (e ∷ effects) = (e.undo ≡ true → can_undo kind book e ≡ true) × UndosFind kind (book ++ e ∷ []) effects
 
--- places that are kept for the effect at a key and its undo
-abbrev pub places_of : Option ℕ → ℕ
-places_of None = 0
-places_of (Some key) = 2
-
--- and among the forward effects that aren't undone
-abbrev pub undo_places : Option ℕ → ℕ
-undo_places None = 0
-undo_places (Some key) = 1
+-- Room is made for these effects: for each forward one at its key.
+pub record HasRoom (ready : List ℕ) (effects : List Effect) : Type 0 where
+  pub keys : All (λ (e : Effect). (e.undo ≡ true) ⊎ Contains ready e.call.key) effects
+  pub many : forwards effects ≤ length ready

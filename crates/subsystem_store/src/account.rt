@@ -1,53 +1,62 @@
 // A box, its book, and what may be undone.
-ghost use Rattle.std.specs.Prelude.{◌≡◌, ◌<◌, ◌≤◌, ◌+◌, ◌++◌, ◌∷◌, [], length, None, Some, true, false, ◌||◌};
-ghost use Rattle.std.specs.Prelude.{◌&&◌, ◌⊎◌, nat_le, Ok, Err, OnOk, OnErr, IsOk, IsTrue, vec_len, vec_capacity, IsSome};
-ghost use Rattle.std.specs.Prelude.{IfSome, ◌↔◌, option_copied, is_some, is_none, ◌-◌, if◌then◌else◌};
+ghost use Rattle.std.specs.Prelude.{◌≡◌, ◌<◌, ◌≤◌, ◌+◌, ◌*◌, ◌++◌, ◌∷◌, [], length, true, false, ◌||◌, ◌&&◌, ◌⊎◌, ◌≢◌};
+ghost use Rattle.std.specs.Prelude.{OnOk, OnErr, IsOk, IsTrue, vec_len, vec_capacity, is_some, ◌-◌, if◌then◌else◌};
 ghost use Rattle.resource_box.specs.Meaning.{value_at, has_key};
 ghost use Rattle.resource_box.specs.Table.{bars};
+ghost use Rattle.subsystem_store.specs.declared.effect.Effect.{Effect};
 ghost use Rattle.subsystem_store.specs.Values.{values, take_last, can_undo, settle, undone, beside};
-ghost use Rattle.subsystem_store.specs.Order.{is_above, may_follow, commits};
+ghost use Rattle.subsystem_store.specs.Order.{is_above, may_follow, commits, has_place, most_effects, MayFollowEach};
+ghost use Rattle.subsystem_store.specs.Room.{forwards, HasRoom};
 ghost use Rattle.subsystem_store.specs.Opened.{Fits};
 
 use crate::Effect;
 use crate::effect::Undoable;
-use crate::matching::{is_above, last_place};
+use crate::matching::{commits, count_of, is_above, last_place, left_of};
 use resource_box::{Kind, Resource};
 use std::alloc::{AllocError, Global};
 use std::marker::Model;
+
+/// The most effects of a store, committed or in doubt.
+pub const MOST_EFFECTS: usize = 16_384;
 
 /// The values of a subsystem beside the effects that made them.
 #[derive(Drop)]
 pub struct Account<B: Drop> {
     kind: Kind,
     resource: B,
-    book: Vec<Effect>,
-    // the forward effects that are not undone, with the values before them
+    // the committed effects, and those in doubt behind them
+    effects: Vec<Effect>,
+    committed: usize,
+    // the committed forward effects that are not undone, with the values before them
     undoable: Vec<Undoable>,
-    doubt: Option<Effect>,
-    // the key at which there is room for one effect more
-    ready: Option<u32>,
+    // the keys at each of which there is room for one effect more
+    ready: Vec<u32>,
 }
 
 impl<B: Drop> Model for Account<B> {
-    ghost use Rattle.std.specs.Prelude.{◌≡◌, ◌≤◌, ◌+◌, length, vec_capacity, IfSome, true};
+    ghost use Rattle.std.specs.Prelude.{◌≡◌, ◌≤◌, ◌+◌, ◌*◌, length, take, drop, vec_capacity};
     ghost use Rattle.subsystem_store.specs.Opened.{Account};
-    ghost use Rattle.subsystem_store.specs.Values.{settled, can_undo};
-    ghost use Rattle.subsystem_store.specs.Room.{room_of, undos_of, places_of, undo_places};
+    ghost use Rattle.subsystem_store.specs.Values.{settled};
+    ghost use Rattle.subsystem_store.specs.Order.{most_effects};
+    ghost use Rattle.subsystem_store.specs.Room.{forwards, UndosFind};
 
     ghost Value = { Account B };
 
     ghost view = { λ a. record {
       kind = a.kind;
       resource = a.resource;
-      book = a.book.items;
-      doubt = a.doubt;
-      ready = a.ready;
+      book = take a.committed a.effects.items;
+      doubt = drop a.committed a.effects.items;
+      ready = a.ready.items;
     } };
 
-    ghost invariant = { λ a. (a.undoable.items ≡ (settled a.kind a.book.items).undoable)
-        × (length a.book.items + length a.undoable.items + room_of a.doubt + places_of a.ready ≤ vec_capacity a.book)
-        × (length a.undoable.items + undos_of a.doubt + undo_places a.ready ≤ vec_capacity a.undoable)
-        × IfSome a.doubt (λ e. e.undo ≡ true → can_undo a.kind a.book.items e ≡ true) };
+    ghost invariant = { λ a. (a.committed ≤ length a.effects.items)
+        × (length a.effects.items ≤ most_effects)
+        × (a.undoable.items ≡ (settled a.kind (take a.committed a.effects.items)).undoable)
+        × (a.committed + length a.undoable.items + 2 * (forwards (drop a.committed a.effects.items) + length a.ready.items)
+        ≤ vec_capacity a.effects)
+        × (length a.undoable.items + (forwards (drop a.committed a.effects.items) + length a.ready.items) ≤ vec_capacity a.undoable)
+        × UndosFind a.kind (take a.committed a.effects.items) (drop a.committed a.effects.items) };
 }
 
 impl<B: Resource> Account<B> {
@@ -55,26 +64,49 @@ impl<B: Resource> Account<B> {
     pub fn new(alloc: Global, resource: B) -> Self
         ensures fits { Fits B.Resource result }
         ensures kind { result.kind ≡ B.sort resource }
-        ensures empty { (result.book ≡ []) × (result.doubt ≡ None) }
+        ensures empty { (result.book ≡ []) × (result.doubt ≡ []) }
     {
         let mut resource = resource;
         resource.clear();
         Account {
             kind: resource.kind(),
             resource,
-            book: Vec::new(alloc),
+            effects: Vec::new(alloc),
+            committed: 0,
             undoable: Vec::new(alloc),
-            doubt: None,
-            ready: None,
+            ready: Vec::new(alloc),
         }
     }
 
-    /// Whether an effect may be prepared next.
-    pub fn may_follow(&self, effect: &Effect) -> bool
-        ensures { result ≡ may_follow self.now.kind self.now.book effect.now }
+    /// Whether an undo can be of something, of the book or of what is in doubt.
+    fn can_undo(&self, undo: &Effect) -> bool
+        ensures { result ≡ can_undo self.now.kind (self.now.book ++ self.now.doubt) undo.now }
     {
-        is_above(&self.book, effect.number)
-            && (!effect.undo || last_place(effect, &self.undoable).is_some())
+        let (_, doubt) = self.effects.split_at(self.committed);
+        left_of(undo, count_of(undo, &self.undoable), doubt) > 0
+    }
+
+    /// Whether an effect may be prepared next.
+    fn may_follow(&self, effect: &Effect) -> bool
+        ensures { result ≡ may_follow self.now.kind (self.now.book ++ self.now.doubt) effect.now }
+    {
+        is_above(&self.effects, effect.number) && (!effect.undo || self.can_undo(effect))
+    }
+
+    /// Whether a prepared effect may come as the next record.
+    pub fn is_in_place(&self, effect: &Effect) -> bool
+        ensures { result ≡ (has_place (self.now.book ++ self.now.doubt)
+            && may_follow self.now.kind (self.now.book ++ self.now.doubt) effect.now) }
+    {
+        self.effects.len() < MOST_EFFECTS && self.may_follow(effect)
+    }
+
+    /// Whether the commit of a number may come as the next record.
+    pub fn is_due(&self, number: u32) -> bool
+        ensures { result ≡ commits self.now.doubt number }
+    {
+        let (_, doubt) = self.effects.split_at(self.committed);
+        commits(doubt, number)
     }
 
     /// The value at a key.
@@ -104,131 +136,136 @@ impl<B: Resource> Account<B> {
         !effect.undo && self.resource.bars(&effect.call)
     }
 
-    /// Makes room for an effect at a key and for its undo.
+    /// Makes room for one effect more at a key and for its undo.
     pub fn make_room(&mut self, key: u32) -> Result<(), AllocError>
         requires fits { Fits B.Resource self.old }
         ensures fits { Fits B.Resource self.new }
         ensures same { (self.new.kind ≡ self.old.kind) × (self.new.book ≡ self.old.book) × (self.new.doubt ≡ self.old.doubt) }
-        ensures ok { OnOk result (self.new.ready ≡ Some key) }
+        ensures ok { OnOk result (self.new.ready ≡ self.old.ready ++ key ∷ []) }
         ensures err { OnErr result (self.new.ready ≡ self.old.ready) }
         ensures sort { B.sort self.new.resource ≡ B.sort self.old.resource }
     {
-        reserve(&mut self.book, &mut self.undoable)?;
+        let doubt = self.effects.len() - self.committed;
+        reserve(
+            &mut self.effects,
+            &mut self.undoable,
+            doubt,
+            &mut self.ready,
+        )?;
         self.resource.ready(key)?;
-        self.ready = Some(key);
+        self.ready.push_reserved(key);
         Ok(())
-    }
-
-    fn is_ready(&self, key: u32) -> bool
-        ensures { IsTrue result ↔ (self.now.ready ≡ Some key) }
-    {
-        match self.ready {
-            Some(other) => other == key,
-            None => false,
-        }
     }
 
     /// Takes an effect in doubt, with the room that it and its undo need.
     pub fn hold(&mut self, effect: Effect) -> Result<(), AllocError>
         requires fits { Fits B.Resource self.old }
-        requires settled { self.old.doubt ≡ None }
-        requires follows { may_follow self.old.kind self.old.book effect ≡ true }
+        requires few { length (self.old.book ++ self.old.doubt) < most_effects }
+        requires follows { may_follow self.old.kind (self.old.book ++ self.old.doubt) effect ≡ true }
         ensures fits { Fits B.Resource self.new }
         ensures same { (self.new.kind ≡ self.old.kind) × (self.new.book ≡ self.old.book) }
-        ensures ok { OnOk result (self.new.doubt ≡ Some effect) }
-        ensures err { OnErr result (self.new.doubt ≡ None) }
-        ensures undo { effect.undo ≡ true → IsOk result }
-        ensures room { self.old.ready ≡ Some effect.call.key → IsOk result }
+        ensures ok { OnOk result (self.new.doubt ≡ self.old.doubt ++ effect ∷ []) }
         ensures sort { B.sort self.new.resource ≡ B.sort self.old.resource }
     {
-        if effect.undo {
-            self.doubt = Some(effect);
-            return Ok(());
-        }
-        if !self.is_ready(effect.call.key) {
-            self.make_room(effect.call.key)?;
-        }
-        self.use_room(effect);
+        self.make_room_for(&effect)?;
+        self.hold_next(effect);
         Ok(())
     }
 
-    /// The same, of an undo or where there is room.
-    pub fn hold_ready(&mut self, effect: Effect)
+    // Makes the room that an effect and its undo need: none for an undo.
+    fn make_room_for(&mut self, effect: &Effect) -> Result<(), AllocError>
         requires fits { Fits B.Resource self.old }
-        requires settled { self.old.doubt ≡ None }
-        requires follows { may_follow self.old.kind self.old.book effect ≡ true }
-        requires room { (effect.undo ≡ true) ⊎ (self.old.ready ≡ Some effect.call.key) }
         ensures fits { Fits B.Resource self.new }
-        ensures same { (self.new.kind ≡ self.old.kind) × (self.new.book ≡ self.old.book) }
-        ensures doubt { self.new.doubt ≡ Some effect }
+        ensures same { (self.new.kind ≡ self.old.kind) × (self.new.book ≡ self.old.book) × (self.new.doubt ≡ self.old.doubt) }
+        ensures ready { OnOk result (effect.now.undo ≡ false
+            → (1 ≤ length self.new.ready) × IsTrue (has_key (B.meaning self.new.resource).items effect.now.call.key)) }
+        ensures sort { B.sort self.new.resource ≡ B.sort self.old.resource }
     {
-        match self.hold(effect) {
-            Ok(()) => {}
-            Err(_) => unreachable!(),
+        if effect.undo {
+            return Ok(());
         }
+        self.make_room(effect.call.key)
     }
 
-    // Takes an effect in doubt in the room that is ready for it.
-    fn use_room(&mut self, effect: Effect)
+    // Takes an effect in doubt, in the room that is ready for it.
+    fn hold_next(&mut self, effect: Effect)
         requires fits { Fits B.Resource self.old }
-        requires settled { self.old.doubt ≡ None }
-        requires ready { self.old.ready ≡ Some effect.call.key }
-        requires forward { effect.undo ≡ false }
+        requires few { length (self.old.book ++ self.old.doubt) < most_effects }
+        requires follows { may_follow self.old.kind (self.old.book ++ self.old.doubt) effect ≡ true }
+        requires ready { effect.undo ≡ false
+            → (1 ≤ length self.old.ready) × IsTrue (has_key (B.meaning self.old.resource).items effect.call.key) }
         ensures fits { Fits B.Resource self.new }
         ensures same { (self.new.kind ≡ self.old.kind) × (self.new.book ≡ self.old.book) × (self.new.resource ≡ self.old.resource) }
-        ensures doubt { self.new.doubt ≡ Some effect }
+        ensures doubt { self.new.doubt ≡ self.old.doubt ++ effect ∷ [] }
+        ensures ready { length self.new.ready + forwards (effect ∷ []) ≡ length self.old.ready }
     {
-        self.ready = None;
-        self.doubt = Some(effect);
+        self.ready.truncate(self.ready.len() - places_of(&effect));
+        self.effects.push_reserved(effect);
     }
 
-    /// Whether a prepared effect may come as the record of this number.
-    pub fn is_in_place(&self, number: u32, effect: &Effect) -> bool
-        ensures place { result ≡
-            (is_none self.now.doubt && may_follow self.now.kind self.now.book effect.now && nat_le number 32768) }
-        ensures few { IsTrue result → number ≤ 32768 }
+    // Lets go what room is left.
+    fn forget_room(&mut self)
+        requires fits { Fits B.Resource self.old }
+        ensures fits { Fits B.Resource self.new }
+        ensures same { (self.new.kind ≡ self.old.kind) × (self.new.book ≡ self.old.book) × (self.new.doubt ≡ self.old.doubt)
+            × (self.new.resource ≡ self.old.resource) }
+        ensures ready { self.new.ready ≡ [] }
     {
-        self.doubt.is_none() && self.may_follow(effect) && number <= 32_768
+        self.ready.clear();
     }
 
-    /// Whether the commit of this effect may come as the record of this number.
-    pub fn is_due(&self, number: u32, committed: u32) -> bool
-        ensures place { result ≡ (commits self.now.doubt committed && nat_le number 32768) }
-        ensures few { IsTrue result → number ≤ 32768 }
+    /// Takes effects in doubt, where there is room for them. What room is left is let go.
+    pub fn hold_each(&mut self, effects: &[Effect])
+        requires fits { Fits B.Resource self.old }
+        requires few { length (self.old.book ++ self.old.doubt) + length effects.now ≤ most_effects }
+        requires follow { MayFollowEach self.old.kind (self.old.book ++ self.old.doubt) effects.now }
+        requires room { HasRoom self.old.ready effects.now }
+        ensures fits { Fits B.Resource self.new }
+        ensures same { (self.new.kind ≡ self.old.kind) × (self.new.book ≡ self.old.book) }
+        ensures doubt { self.new.doubt ≡ self.old.doubt ++ effects.now }
+        ensures ready { self.new.ready ≡ [] }
     {
-        match self.doubt {
-            Some(effect) => effect.number == committed && number <= 32_768,
-            None => false,
-        }
+        hold_in_room(self, effects);
+        self.forget_room();
     }
 
     /// Forgets what is in doubt.
     pub fn release(&mut self)
         requires fits { Fits B.Resource self.old }
         ensures fits { Fits B.Resource self.new }
-        ensures same { (self.new.kind ≡ self.old.kind) × (self.new.book ≡ self.old.book) × (self.new.doubt ≡ None) }
+        ensures same { (self.new.kind ≡ self.old.kind) × (self.new.book ≡ self.old.book) × (self.new.doubt ≡ []) }
         ensures ready { self.new.ready ≡ self.old.ready }
     {
-        self.doubt = None;
+        self.effects.truncate(self.committed);
     }
 
-    /// Commits what is in doubt.
-    pub fn commit(&mut self)
+    // Commits the first effect in doubt.
+    fn commit_next(&mut self)
         requires fits { Fits B.Resource self.old }
-        requires doubt { IsSome self.old.doubt }
+        requires doubt { self.old.doubt ≢ [] }
         ensures fits { Fits B.Resource self.new }
         ensures same { self.new.kind ≡ self.old.kind }
         ensures sort { B.sort self.new.resource ≡ B.sort self.old.resource }
-        ensures book { IfSome self.old.doubt (λ e. self.new.book ≡ self.old.book ++ e ∷ []) }
-        ensures settled { self.new.doubt ≡ None }
+        ensures all { self.new.book ++ self.new.doubt ≡ self.old.book ++ self.old.doubt }
+        ensures fewer { length self.new.doubt + 1 ≡ length self.old.doubt }
         ensures ready { self.new.ready ≡ self.old.ready }
     {
-        let Some(effect) = self.doubt else {
-            unreachable!();
-        };
-        self.doubt = None;
+        let effect = self.effects[self.committed];
         settle(&mut self.resource, &mut self.undoable, effect);
-        self.book.push_reserved(effect);
+        self.committed += 1;
+    }
+
+    /// Commits all that is in doubt, in order.
+    pub fn commit(&mut self)
+        requires fits { Fits B.Resource self.old }
+        ensures fits { Fits B.Resource self.new }
+        ensures same { self.new.kind ≡ self.old.kind }
+        ensures sort { B.sort self.new.resource ≡ B.sort self.old.resource }
+        ensures book { self.new.book ≡ self.old.book ++ self.old.doubt }
+        ensures settled { self.new.doubt ≡ [] }
+        ensures ready { self.new.ready ≡ self.old.ready }
+    {
+        commit_each(self);
     }
 }
 
@@ -236,13 +273,21 @@ impl<B: Drop> Account<B> {
     pub fn book(&self) -> &[Effect]
         ensures { result.now ≡ self.now.book }
     {
-        &self.book
+        let (book, _) = self.effects.split_at(self.committed);
+        book
     }
 
-    pub fn in_doubt(&self) -> Option<&Effect>
-        ensures { option_copied result ≡ self.now.doubt }
+    pub fn in_doubt(&self) -> &[Effect]
+        ensures { result.now ≡ self.now.doubt }
     {
-        self.doubt.as_ref()
+        let (_, doubt) = self.effects.split_at(self.committed);
+        doubt
+    }
+
+    pub fn effects(&self) -> &[Effect]
+        ensures { result.now ≡ self.now.book ++ self.now.doubt }
+    {
+        &self.effects
     }
 
     pub fn into_resource(self) -> B
@@ -252,17 +297,65 @@ impl<B: Drop> Account<B> {
     }
 }
 
-// Room for an effect in doubt and for one more, for the undos of both, and for those of the others.
-fn reserve(book: &mut Vec<Effect>, undoable: &mut Vec<Undoable>) -> Result<(), AllocError>
-    requires few { vec_len undoable.old ≤ vec_capacity book.old }
-    ensures same { (book.new.items ≡ book.old.items) × (undoable.new.items ≡ undoable.old.items) }
-    ensures keeps { (vec_capacity book.old ≤ vec_capacity book.new) × (vec_capacity undoable.old ≤ vec_capacity undoable.new) }
-    ensures room { OnOk result
-        ((vec_len book.new + vec_len undoable.new + 4 ≤ vec_capacity book.new)
-        × (vec_len undoable.new + 2 ≤ vec_capacity undoable.new)) }
+// For how many effects room is to be ready where this one comes.
+fn places_of(effect: &Effect) -> usize
+    ensures { result ≡ forwards (effect.now ∷ []) }
 {
-    book.reserve(undoable.len() + 4)?;
-    undoable.reserve(2)
+    if effect.undo { 0 } else { 1 }
+}
+
+// Takes effects in doubt, in the room that is ready for them.
+fn hold_in_room<B: Resource>(account: &mut Account<B>, effects: &[Effect])
+    requires fits { Fits B.Resource account.old }
+    requires few { length (account.old.book ++ account.old.doubt) + length effects.now ≤ most_effects }
+    requires follow { MayFollowEach account.old.kind (account.old.book ++ account.old.doubt) effects.now }
+    requires room { HasRoom account.old.ready effects.now }
+    ensures fits { Fits B.Resource account.new }
+    ensures same { (account.new.kind ≡ account.old.kind) × (account.new.book ≡ account.old.book) }
+    ensures doubt { account.new.doubt ≡ account.old.doubt ++ effects.now }
+{
+    let mut rest = effects;
+    'effects: while let Some((effect, after)) = rest.split_first() {
+        account.hold_next(*effect);
+        rest = after;
+    }
+}
+
+// Commits all that is in doubt, one after the other.
+fn commit_each<B: Resource>(account: &mut Account<B>)
+    requires fits { Fits B.Resource account.old }
+    ensures fits { Fits B.Resource account.new }
+    ensures same { account.new.kind ≡ account.old.kind }
+    ensures sort { B.sort account.new.resource ≡ B.sort account.old.resource }
+    ensures book { account.new.book ≡ account.old.book ++ account.old.doubt }
+    ensures settled { account.new.doubt ≡ [] }
+    ensures ready { account.new.ready ≡ account.old.ready }
+{
+    while !account.in_doubt().is_empty() {
+        account.commit_next();
+    }
+}
+
+// Room for the effects in doubt and for one more beside those that are ready, for the undos of them, and for those of the others.
+fn reserve(
+    effects: &mut Vec<Effect>,
+    undoable: &mut Vec<Undoable>,
+    doubt: usize,
+    ready: &mut Vec<u32>,
+) -> Result<(), AllocError>
+    requires few { (vec_len undoable.old + 2 * vec_len ready.old ≤ vec_capacity effects.old) × (doubt ≤ most_effects) }
+    ensures same { (effects.new.items ≡ effects.old.items) × (undoable.new.items ≡ undoable.old.items)
+        × (ready.new.items ≡ ready.old.items) }
+    ensures keeps { (vec_capacity effects.old ≤ vec_capacity effects.new) × (vec_capacity undoable.old ≤ vec_capacity undoable.new) }
+    ensures room { OnOk result
+        ((vec_len effects.new + (vec_len undoable.new + doubt + 2 * (vec_len ready.new + 1)) ≤ vec_capacity effects.new)
+        × (vec_len undoable.new + (doubt + vec_len ready.new + 1) ≤ vec_capacity undoable.new)
+        × (vec_len ready.new + 1 ≤ vec_capacity ready.new)) }
+{
+    let more = ready.len() + 1;
+    effects.reserve(undoable.len() + doubt + 2 * more)?;
+    undoable.reserve(doubt + more)?;
+    ready.reserve(1)
 }
 
 // Changes the box by an effect, and what may be undone.

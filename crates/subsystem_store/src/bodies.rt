@@ -44,7 +44,7 @@ pub fn prepared_bytes(effect: &Effect) -> [u8; 25]
     ]
 }
 
-/// The body that commits the effect of a number.
+/// The body that commits all effects up to that of a number.
 pub fn committed_bytes(number: u32) -> [u8; 5]
     ensures { result ≡ committed_bytes number }
 {

@@ -1,8 +1,8 @@
 // Which effects belong together.
-ghost use Rattle.std.specs.Prelude.{◌≡◌, ◌<◌, Some, None};
+ghost use Rattle.std.specs.Prelude.{◌≡◌, ◌<◌, ◌≤◌, ◌+◌, ◌*◌, length, Some, None};
 ghost use Rattle.subsystem_store.specs.Values.{same_call, is_of};
-ghost use Rattle.subsystem_store.specs.Order.{is_above};
-ghost use Rattle.subsystem_store.specs.Matching.{last_place};
+ghost use Rattle.subsystem_store.specs.Order.{is_above, commits, most_effects};
+ghost use Rattle.subsystem_store.specs.Matching.{last_place, count_of, left_after, left_of};
 
 use crate::Effect;
 use crate::effect::Undoable;
@@ -46,4 +46,61 @@ pub fn is_above(book: &[Effect], number: u32) -> bool
         [.., last] => last.number < number,
         [] => true,
     }
+}
+
+/// Whether a number is that of the last of these effects, which are some.
+pub fn commits(doubt: &[Effect], number: u32) -> bool
+    ensures { result ≡ commits doubt.now number }
+{
+    match doubt {
+        [.., last] => last.number == number,
+        [] => false,
+    }
+}
+
+/// How many of these an undo can be of.
+pub fn count_of(undo: &Effect, undoable: &[Undoable]) -> u32
+    requires few { length undoable.now ≤ most_effects }
+    ensures count { result ≡ count_of undo.now undoable.now }
+    ensures few { result ≤ length undoable.now }
+{
+    let mut count = 0;
+    let mut rest = undoable;
+    while let [first, after @ ..] = rest {
+        if is_of(undo, &first.effect) {
+            count += 1;
+        }
+        rest = after;
+    }
+    count
+}
+
+// How many of so many are left behind an effect that comes, or is undone.
+fn left_after(undo: &Effect, left: u32, effect: &Effect) -> u32
+    requires few { left < 2 * most_effects }
+    ensures left { result ≡ left_after undo.now left effect.now }
+    ensures few { result ≤ left + 1 }
+{
+    if !is_of(undo, effect) {
+        return left;
+    }
+    if effect.undo {
+        left.saturating_sub(1)
+    } else {
+        left + 1
+    }
+}
+
+/// How many of so many, which an undo can be of, are left behind these effects.
+pub fn left_of(undo: &Effect, left: u32, effects: &[Effect]) -> u32
+    requires few { left + length effects.now ≤ 2 * most_effects }
+    ensures { result ≡ left_of undo.now left effects.now }
+{
+    let mut left = left;
+    let mut rest = effects;
+    while let [effect, after @ ..] = rest {
+        left = left_after(undo, left, effect);
+        rest = after;
+    }
+    left
 }

@@ -1,7 +1,7 @@
 // The records of a file are taken into an account.
-ghost use Rattle.std.specs.Prelude.{◌≡◌, ◌≢◌, ◌≤◌, ◌++◌, ◌∷◌, [], length, None, Some, Ok, Err, IfOk, IfErr, IfSome, IsSome, OnOk};
-ghost use Rattle.subsystem_store.specs.Order.{placed, after_prepared, after_committed, after_body, read_bodies, no_book};
-ghost use Rattle.subsystem_store.specs.Bodies.{record_of, store_bodies};
+ghost use Rattle.std.specs.Prelude.{◌≡◌, ◌≢◌, ◌<◌, ◌≤◌, ◌++◌, ◌∷◌, [], ℕ, List, length, Ok, Err, IfOk, IfErr, OnOk, true};
+ghost use Rattle.subsystem_store.specs.Order.{placed, after_prepared, after_committed, after_body, read_bodies, no_book, commits};
+ghost use Rattle.subsystem_store.specs.Bodies.{record_of, AreBodiesOf};
 ghost use Rattle.subsystem_store.specs.Answers.{RefusedAs};
 ghost use Rattle.subsystem_store.specs.Opened.{Fits, book_of};
 
@@ -17,15 +17,14 @@ impl<B: Resource> Account<B> {
     pub fn replay(self, bodies: &[Body]) -> Result<Self, StoreRefused<B>>
         requires fits { Fits B.Resource self }
         requires few { length bodies.now ≤ 65536 }
-        requires unused { (self.book ≡ []) × (self.doubt ≡ None) }
+        requires unused { (self.book ≡ []) × (self.doubt ≡ []) }
         ensures read { IfOk result (λ a. read_bodies self.kind 1 bodies.now no_book ≡ Ok (book_of a)) }
         ensures fits { IfOk result (λ a. Fits B.Resource a) }
         ensures kind { IfOk result (λ a. a.kind ≡ self.kind) }
-        ensures bodies { IfOk result (λ a. store_bodies a.book a.doubt ≡ bodies.now) }
+        ensures bodies { IfOk result (λ a. AreBodiesOf a.book a.doubt bodies.now) }
         ensures refused { IfErr result
             (λ r. RefusedAs (read_bodies self.kind 1 bodies.now no_book) r.why × (r.why ≢ StoreError.DiskFault)) }
         ensures cleared { IfErr result (λ r. ((B.meaning r.resource).items ≡ []) × (B.sort r.resource ≡ B.sort self.resource)) }
-        ensures small { OnOk result (length bodies.now ≤ 32768) }
     {
         let mut account = self;
         let mut rest = bodies;
@@ -48,12 +47,11 @@ impl<B: Resource> Account<B> {
         requires fits { Fits B.Resource self.old }
         ensures read { OnOk result
             (after_body self.old.kind number (book_of self.old) (record_of body.now) ≡ Ok (book_of self.new)) }
-        ensures bodies { OnOk result
-            (store_bodies self.new.book self.new.doubt ≡ store_bodies self.old.book self.old.doubt ++ body.now ∷ []) }
+        ensures bodies { OnOk result ((bodies : List (List ℕ)) → AreBodiesOf self.old.book self.old.doubt bodies
+            → AreBodiesOf self.new.book self.new.doubt (bodies ++ body.now ∷ [])) }
         ensures refused { IfErr result
             (λ e. RefusedAs (after_body self.old.kind number (book_of self.old) (record_of body.now)) e
             × (e ≢ StoreError.DiskFault)) }
-        ensures few { OnOk result (number ≤ 32768) }
         ensures fits { Fits B.Resource self.new }
         ensures same { self.new.kind ≡ self.old.kind }
         ensures sort { B.sort self.new.resource ≡ B.sort self.old.resource }
@@ -75,16 +73,15 @@ impl<B: Resource> Account<B> {
         requires fits { Fits B.Resource self.old }
         ensures ok { OnOk result
             ((placed number (after_prepared self.old.kind (book_of self.old) effect) ≡ Ok (book_of self.new))
-            × (self.old.doubt ≡ None) × (self.new.doubt ≡ Some effect) × (self.new.book ≡ self.old.book)) }
+            × (self.new.doubt ≡ self.old.doubt ++ effect ∷ []) × (self.new.book ≡ self.old.book)) }
         ensures refused { IfErr result
             (λ e. e ≢ StoreError.NoMemory → (e ≡ StoreError.BadBook number)
             × (placed number (after_prepared self.old.kind (book_of self.old) effect) ≡ Err (StoreError.BadBook number))) }
-        ensures few { OnOk result (number ≤ 32768) }
         ensures fits { Fits B.Resource self.new }
         ensures same { self.new.kind ≡ self.old.kind }
         ensures sort { B.sort self.new.resource ≡ B.sort self.old.resource }
     {
-        if !self.is_in_place(number, &effect) {
+        if !self.is_in_place(&effect) {
             return Err(StoreError::BadBook(number));
         }
         match self.hold(effect) {
@@ -97,17 +94,16 @@ impl<B: Resource> Account<B> {
         requires fits { Fits B.Resource self.old }
         ensures ok { OnOk result
             ((placed number (after_committed self.old.book self.old.doubt committed) ≡ Ok (book_of self.new))
-            × IfSome self.old.doubt (λ e. (e.number ≡ committed) × (self.new.book ≡ self.old.book ++ e ∷ []))
-            × IsSome self.old.doubt × (self.new.doubt ≡ None)) }
+            × (commits self.old.doubt committed ≡ true) × (self.new.book ≡ self.old.book ++ self.old.doubt)
+            × (self.new.doubt ≡ [])) }
         ensures refused { IfErr result
             (λ e. (e ≡ StoreError.BadBook number) ×
             (placed number (after_committed self.old.book self.old.doubt committed) ≡ Err (StoreError.BadBook number))) }
-        ensures few { OnOk result (number ≤ 32768) }
         ensures fits { Fits B.Resource self.new }
         ensures same { self.new.kind ≡ self.old.kind }
         ensures sort { B.sort self.new.resource ≡ B.sort self.old.resource }
     {
-        if !self.is_due(number, committed) {
+        if !self.is_due(committed) {
             return Err(StoreError::BadBook(number));
         }
         self.commit();

@@ -1,6 +1,6 @@
 // An open store.
-ghost use Rattle.std.specs.Prelude.{◌≡◌, ◌≢◌, ◌↔◌, ◌⊎◌, ◌<◌, ◌≤◌, ◌+◌, ◌++◌, ◌∷◌, [], length, None, Some, true, false};
-ghost use Rattle.std.specs.Prelude.{OnOk, OnErr, IfOk, IfErr, IsErr, IfSome, IsSome, IsTrue, if◌then◌else◌, option_copied};
+ghost use Rattle.std.specs.Prelude.{◌≡◌, ◌≢◌, ◌↔◌, ◌<◌, ◌≤◌, ◌+◌, ◌*◌, ◌++◌, ◌∷◌, [], List, length, false};
+ghost use Rattle.std.specs.Prelude.{OnOk, OnErr, IfOk, IfErr, IsErr, IsTrue, if◌then◌else◌};
 ghost use Rattle.process_flow.specs.Causes.{Rose};
 ghost use Rattle.process_disk.specs.Disk.{Told, file_of};
 ghost use Rattle.process_disk.specs.Racks.{LeavesRack};
@@ -8,10 +8,12 @@ ghost use Rattle.process_disk.specs.Images.{EachImage, OthersAsBefore, AllAsBefo
 ghost use Rattle.resource_box.specs.Meaning.{value_at};
 ghost use Rattle.resource_box.specs.Table.{bars};
 ghost use Rattle.subsystem_store.specs.declared.effect.Effect.{Effect};
-ghost use Rattle.gate_log.specs.Staging.{staging, unstaged, with_staged};
-ghost use Rattle.subsystem_store.specs.Bodies.{is_amount, prepared_bytes, committed_bytes};
+ghost use Rattle.gate_log.specs.LogFile.{records_size};
+ghost use Rattle.gate_log.specs.Staging.{staging, staging_all, unstaged, with_staged};
+ghost use Rattle.subsystem_store.specs.Bodies.{prepared_bodies, committed_bytes, last_number};
 ghost use Rattle.subsystem_store.specs.Values.{values};
-ghost use Rattle.subsystem_store.specs.Order.{may_follow, read_store};
+ghost use Rattle.subsystem_store.specs.Order.{MayFollowEach, most_effects, read_store};
+ghost use Rattle.subsystem_store.specs.Room.{HasRoom};
 ghost use Rattle.subsystem_store.specs.Laws.{IsGoodBook};
 ghost use Rattle.subsystem_store.specs.Answers.{OpensAs, IsFault};
 ghost use Rattle.subsystem_store.specs.Opened.{Opened, Fits, Stands, account_of, IsStoreOf, IsStoreOfEither};
@@ -26,6 +28,22 @@ use resource_box::Resource;
 use std::alloc::{AllocError, Global};
 use std::marker::Model;
 
+// how many bytes the record of a prepared effect has, with its gate and its length
+const PREPARED_SIZE: u64 = 28;
+
+// Stages the records that prepare these effects, behind what is staged.
+fn stage_each(log: &mut Log, effects: &[Effect])
+    requires size { records_size log.old.staged + 28 * length effects.now ≤ 65538 }
+    requires room { log.old.count + (length log.old.staged + length effects.now) ≤ 65536 }
+    ensures { log.new ≡ staging_all log.old (prepared_bodies effects.now) }
+{
+    let mut rest = effects;
+    'effects: while let Some((effect, after)) = rest.split_first() {
+        log.stage(&prepared_bytes(effect));
+        rest = after;
+    }
+}
+
 /// A subsystem's effects in a file, and their values in a box. After a `DiskFault` it is opened again before any other call.
 #[derive(Drop)]
 pub struct Store<B: Drop = Box<dyn Resource + Send>> {
@@ -34,10 +52,10 @@ pub struct Store<B: Drop = Box<dyn Resource + Send>> {
 }
 
 impl<B: Drop> Model for Store<B> {
-    ghost use Rattle.std.specs.Prelude.{◌≡◌, ◌≤◌, ◌<◌, length, IsSome};
+    ghost use Rattle.std.specs.Prelude.{◌≢◌, ◌≤◌, ◌+◌, ◌*◌, [], length};
     ghost use Rattle.gate_log.specs.Standing.{CanRetract};
     ghost use Rattle.subsystem_store.specs.Opened.{Opened};
-    ghost use Rattle.subsystem_store.specs.Room.{records_of};
+    ghost use Rattle.subsystem_store.specs.Order.{most_effects};
 
     ghost Value = { Opened B };
 
@@ -50,9 +68,9 @@ impl<B: Drop> Model for Store<B> {
       ready = s.account.ready;
     } };
 
-    ghost invariant = { λ s. (s.log.count ≡ records_of (length s.account.book) s.account.doubt)
-        × (length s.account.book ≤ 16384)
-        × (IsSome s.account.doubt → (length s.account.book < 16384) × CanRetract s.log) };
+    ghost invariant = { λ s. (s.log.count ≤ 2 * length s.account.book + length s.account.doubt)
+        × (length s.account.book + length s.account.doubt ≤ most_effects)
+        × (s.account.doubt ≢ [] → CanRetract (length s.account.doubt) (28 * length s.account.doubt) s.log) };
 }
 
 impl<B: Resource> Store<B> {
@@ -67,7 +85,7 @@ impl<B: Resource> Store<B> {
         requires empty { Told (R.disk rack.old) → file_of (R.disk rack.old).files file ≡ [] }
         ensures stands { Told (R.disk rack.old) → IfOk result (λ s. Stands s (R.disk rack.new)) }
         ensures fits { IfOk result (λ s. Fits B.Resource (account_of s)) }
-        ensures unused { IfOk result (λ s. (s.log.file ≡ file) × (s.kind ≡ B.sort resource) × (s.book ≡ []) × (s.doubt ≡ None)) }
+        ensures unused { IfOk result (λ s. (s.log.file ≡ file) × (s.kind ≡ B.sort resource) × (s.book ≡ []) × (s.doubt ≡ [])) }
         ensures cleared { IfErr result (λ r. ((B.meaning r.resource).items ≡ []) × (B.sort r.resource ≡ B.sort resource)) }
         ensures refused { IfErr result
             (λ r. r.why ≢ StoreError.NoMemory → (r.why ≡ StoreError.DiskFault) × Rose (R.faults rack.old) (R.faults rack.new)) }
@@ -115,24 +133,26 @@ impl<B: Resource> Store<B> {
         }
     }
 
-    /// Takes the effect in doubt back.
+    /// Takes all effects in doubt back. A crash leaves all of them in doubt, or none.
     pub fn roll_back<R: Rack>(&mut self, rack: &mut R) -> Result<(), DiskFault>
-        requires doubt { IsSome self.old.doubt }
+        requires doubt { self.old.doubt ≢ [] }
         requires fits { Fits B.Resource (account_of self.old) }
         requires stands { Told (R.disk rack.old) → Stands self.old (R.disk rack.old) }
         ensures acknowledged { Told (R.disk rack.old) → OnOk result (Stands self.new (R.disk rack.new)) }
         ensures any_moment { Told (R.disk rack.old) →
             EachImage (R.disk rack.new) (R.disk rack.old).moment
-            (IsStoreOfEither self.old.log.file (self.old.book, None) (self.old.book, self.old.doubt)) }
+            (IsStoreOfEither self.old.log.file (self.old.book, []) (self.old.book, self.old.doubt)) }
         ensures fits { Fits B.Resource (account_of self.new) }
-        ensures ok { OnOk result (self.new.doubt ≡ None) }
+        ensures ok { OnOk result (self.new.doubt ≡ []) }
         ensures err { OnErr result (self.new.doubt ≡ self.old.doubt) }
         ensures same { (self.new.log.file ≡ self.old.log.file) × (self.new.kind ≡ self.old.kind)
             × (self.new.book ≡ self.old.book) × (self.new.ready ≡ self.old.ready) }
         ensures others { Told (R.disk rack.old) → OthersAsBefore self.old.log.file (R.disk rack.old) (R.disk rack.new) }
         ensures rack { LeavesRack R.Rack rack.old rack.new (IsErr result) }
     {
-        self.log.retract(rack)?;
+        let count = self.account.in_doubt().len() as u32;
+        let size = PREPARED_SIZE * u64::from(count);
+        self.log.retract(rack, count, size)?;
         self.account.release();
         Ok(())
     }
@@ -146,11 +166,11 @@ impl<B: Resource> Store<B> {
         self.account.bars(effect)
     }
 
-    /// Makes room for the next effect at a key, so that preparing it needs no memory.
+    /// Makes room for one effect more at a key, so that preparing it needs no memory.
     pub fn make_room(&mut self, key: u32) -> Result<(), AllocError>
         requires fits { Fits B.Resource (account_of self.old) }
         ensures fits { Fits B.Resource (account_of self.new) }
-        ensures ok { OnOk result (self.new.ready ≡ Some key) }
+        ensures ok { OnOk result (self.new.ready ≡ self.old.ready ++ key ∷ []) }
         ensures err { OnErr result (self.new.ready ≡ self.old.ready) }
         ensures same { (self.new.log ≡ self.old.log) × (self.new.kind ≡ self.old.kind)
             × (self.new.book ≡ self.old.book) × (self.new.doubt ≡ self.old.doubt) }
@@ -166,47 +186,48 @@ impl<B: Resource> Store<B> {
         self.log.unstage();
     }
 
-    /// Stages the record that prepares an effect, and nothing else. The store stands for the same book.
-    pub fn stage_prepare(&mut self, effect: &Effect)
-        requires settled { self.old.doubt ≡ None }
-        requires few { length self.old.book < 16384 }
-        ensures log { self.new.log ≡ staging (unstaged self.old.log) (prepared_bytes effect.now) }
+    /// Stages the records that prepare these effects, and nothing else. The store stands for the same book.
+    pub fn stage_prepare(&mut self, effects: &[Effect])
+        requires settled { self.old.doubt ≡ [] }
+        requires few { length self.old.book + length effects.now ≤ most_effects }
+        requires size { 28 * length effects.now ≤ 65538 }
+        ensures log { self.new.log ≡ staging_all (unstaged self.old.log) (prepared_bodies effects.now) }
         ensures same { account_of self.new ≡ account_of self.old }
     {
         self.log.unstage();
-        self.log.stage(&prepared_bytes(effect));
+        stage_each(&mut self.log, effects);
     }
 
-    /// Stages the record that commits the effect in doubt, and nothing else. The effect stays in doubt.
+    /// Stages the record that commits all effects in doubt, and nothing else. They stay in doubt.
     pub fn stage_commit(&mut self)
-        requires doubt { IsSome self.old.doubt }
-        ensures log { (e : Effect) → self.old.doubt ≡ Some e
-            → self.new.log ≡ staging (unstaged self.old.log) (committed_bytes e.number) }
+        requires doubt { self.old.doubt ≢ [] }
+        ensures log { self.new.log ≡ staging (unstaged self.old.log) (committed_bytes (last_number self.old.doubt)) }
         ensures same { account_of self.new ≡ account_of self.old }
     {
-        let number = self.number_in_doubt();
+        let number = self.last_in_doubt();
         self.log.unstage();
         self.log.stage(&committed_bytes(number));
     }
 
-    fn number_in_doubt(&self) -> u32
-        requires doubt { IsSome self.now.doubt }
-        ensures { (e : Effect) → self.now.doubt ≡ Some e → result ≡ e.number }
+    // The number of the last effect in doubt.
+    fn last_in_doubt(&self) -> u32
+        requires doubt { self.now.doubt ≢ [] }
+        ensures { result ≡ last_number self.now.doubt }
     {
         match self.account.in_doubt() {
-            Some(effect) => effect.number,
-            None => unreachable!(),
+            [.., last] => last.number,
+            [] => unreachable!(),
         }
     }
 
-    /// Whether a record is staged.
+    /// Whether anything is staged.
     pub fn has_staged(&self) -> bool
         ensures { IsTrue result ↔ (self.now.log.staged ≢ []) }
     {
         self.log.has_staged()
     }
 
-    /// Writes the staged record behind the closed gate, and syncs nothing. A crash leaves the store as it was.
+    /// Writes the staged records behind the closed gate, and syncs nothing. A crash leaves the store as it was.
     pub fn write_staged<R: Rack>(&self, rack: &mut R) -> Result<(), DiskFault>
         requires staged { self.now.log.staged ≢ [] }
         requires stands { Told (R.disk rack.old) → Stands self.now (R.disk rack.old) }
@@ -219,52 +240,55 @@ impl<B: Resource> Store<B> {
         self.log.write_staged(rack)
     }
 
-    /// Opens the gate of the staged record, when it is on the disk, and syncs nothing. A crash leaves the store before or with it.
+    /// Opens the gate of the staged records, when they are on the disk, and syncs nothing. A crash leaves the store before or with all
+    /// of them.
     pub fn open_gate<R: Rack>(&self, rack: &mut R) -> Result<(), DiskFault>
         requires on_disk { Told (R.disk rack.old) → IsOnDisk self.now (R.disk rack.old) }
         ensures opened { Told (R.disk rack.old) → OnOk result (HasOpened self.now (R.disk rack.new)) }
         ensures any_moment { Told (R.disk rack.old)
             → EachImage (R.disk rack.new) (R.disk rack.old).moment (IsBeforeOrWith self.now) }
-        ensures prepared { Told (R.disk rack.old) → (e : Effect) → self.now.doubt ≡ None
-            → self.now.log.staged ≡ prepared_bytes e ∷ [] →
+        ensures prepared { Told (R.disk rack.old) → (effects : List Effect) → self.now.log.staged ≡ prepared_bodies effects →
             EachImage (R.disk rack.new) (R.disk rack.old).moment
-            (IsStoreOfEither self.now.log.file (self.now.book, None) (self.now.book, Some e)) }
-        ensures committed { Told (R.disk rack.old) → (e : Effect) → self.now.doubt ≡ Some e
-            → self.now.log.staged ≡ committed_bytes e.number ∷ [] →
+            (IsStoreOfEither self.now.log.file (self.now.book, self.now.doubt) (self.now.book, self.now.doubt ++ effects)) }
+        ensures committed { Told (R.disk rack.old) → self.now.doubt ≢ []
+            → self.now.log.staged ≡ committed_bytes (last_number self.now.doubt) ∷ [] →
             EachImage (R.disk rack.new) (R.disk rack.old).moment
-            (IsStoreOfEither self.now.log.file (self.now.book, Some e) (self.now.book ++ e ∷ [], None)) }
+            (IsStoreOfEither self.now.log.file (self.now.book, self.now.doubt) (self.now.book ++ self.now.doubt, [])) }
         ensures others { Told (R.disk rack.old) → OthersAsBefore self.now.log.file (R.disk rack.old) (R.disk rack.new) }
         ensures rack { LeavesRack R.Rack rack.old rack.new (IsErr result) }
     {
         self.log.open_gate(rack)
     }
 
-    /// Takes an effect in doubt, once the gate of the record that prepares it is open on the disk. It needs no memory.
-    pub fn take_prepared(&mut self, effect: Effect)
-        requires settled { self.old.doubt ≡ None }
-        requires few { length self.old.book < 16384 }
-        requires follows { may_follow self.old.kind self.old.book effect ≡ true }
+    /// Takes effects in doubt, once the gate of the records that prepare them is open on the disk. It needs no memory, and lets go
+    /// what room is left.
+    pub fn take_prepared(&mut self, effects: &[Effect])
+        requires settled { self.old.doubt ≡ [] }
+        requires some { effects.now ≢ [] }
+        requires few { length self.old.book + length effects.now ≤ most_effects }
+        requires follow { MayFollowEach self.old.kind self.old.book effects.now }
         requires fits { Fits B.Resource (account_of self.old) }
-        requires staged { self.old.log.staged ≡ prepared_bytes effect ∷ [] }
-        requires room { (effect.undo ≡ true) ⊎ (self.old.ready ≡ Some effect.call.key) }
+        requires staged { self.old.log.staged ≡ prepared_bodies effects.now }
+        requires room { HasRoom self.old.ready effects.now }
         ensures log { self.new.log ≡ with_staged self.old.log }
         ensures fits { Fits B.Resource (account_of self.new) }
-        ensures doubt { self.new.doubt ≡ Some effect }
+        ensures doubt { self.new.doubt ≡ effects.now }
+        ensures ready { self.new.ready ≡ [] }
         ensures same { (self.new.kind ≡ self.old.kind) × (self.new.book ≡ self.old.book) }
     {
-        self.account.hold_ready(effect);
+        self.account.hold_each(effects);
         self.log.take_staged();
     }
 
-    /// Takes the effect in doubt among the committed ones, once the gate of the record that commits it is open on the disk.
+    /// Takes all effects in doubt among the committed ones, once the gate of the record that commits them is open on the disk.
     pub fn take_committed(&mut self)
-        requires doubt { IsSome self.old.doubt }
+        requires doubt { self.old.doubt ≢ [] }
         requires fits { Fits B.Resource (account_of self.old) }
-        requires staged { IfSome self.old.doubt (λ e. self.old.log.staged ≡ committed_bytes e.number ∷ []) }
+        requires staged { self.old.log.staged ≡ committed_bytes (last_number self.old.doubt) ∷ [] }
         ensures log { self.new.log ≡ with_staged self.old.log }
         ensures fits { Fits B.Resource (account_of self.new) }
-        ensures doubt { self.new.doubt ≡ None }
-        ensures book { IfSome self.old.doubt (λ e. self.new.book ≡ self.old.book ++ e ∷ []) }
+        ensures doubt { self.new.doubt ≡ [] }
+        ensures book { self.new.book ≡ self.old.book ++ self.old.doubt }
         ensures same { self.new.kind ≡ self.old.kind }
     {
         self.account.commit();
@@ -279,9 +303,9 @@ impl<B: Resource> Store<B> {
         self.account.look(key)
     }
 
-    /// The effect that is prepared and not committed.
-    pub fn in_doubt(&self) -> Option<&Effect>
-        ensures { option_copied result ≡ self.now.doubt }
+    /// The effects that are prepared and not committed, in order.
+    pub fn in_doubt(&self) -> &[Effect]
+        ensures { result.now ≡ self.now.doubt }
     {
         self.account.in_doubt()
     }
@@ -291,6 +315,13 @@ impl<B: Resource> Store<B> {
         ensures { result.now ≡ self.now.book }
     {
         self.account.book()
+    }
+
+    /// The committed effects and those in doubt behind them, in order.
+    pub fn effects(&self) -> &[Effect]
+        ensures { result.now ≡ self.now.book ++ self.now.doubt }
+    {
+        self.account.effects()
     }
 
     /// The box, with the values of the book.

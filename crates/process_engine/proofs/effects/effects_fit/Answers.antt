@@ -1,8 +1,13 @@
-use Rattle.std.proofs.Common.{arith}
-use Rattle.process_engine.proofs.Places.{one_of_eight}
+use Rattle.std.proofs.Common.{◌≡◌, ◌∙◌, true, [], subst, sym}
+use Rattle.std.specs.List.{All}
+use Rattle.std.proofs.lemmas.List.{get_or_default}
+use Rattle.subsystem_store.specs.declared.effect.Effect.{Effect}
+use Rattle.subsystem_store.specs.Bodies.{is_amount}
 use Rattle.process_engine.proofs.effects.effects_fit.Goals as goal
 
-pub returns : goal.returns
-returns c q e is =
-    let low = one_of_eight c.args.group.now q e c.told-group is in
-    c.loop-place.invariant.before q e (omega (arith, low, c.loop-place-test.false, c.loop-place.invariant.within)) is
+pub each_fits-requires : goal.each_fits-requires
+each_fits-requires c =
+    let group = c.args.group.now in
+    let place = c.loop-place.place in
+    let is = c.as_slice.ensures ∙ c.index-group-place.is ∙ get_or_default group place c.index-group-place.result [] c.loop-place-test.true in
+    subst (All (λ (e : Effect). is_amount e.call.amount ≡ true)) (sym is) (c.requires place)

@@ -1,12 +1,16 @@
-use Rattle.std.proofs.Common.{◌≡◌, ◌∙◌, Err, map, refl, subst, sym}
+use Rattle.std.proofs.Common.{◌≡◌, ◌∙◌, Err, IfErr, IfOk, Ok, Result, inr, map, refl, subst, sym}
 use Rattle.std.proofs.lemmas.Result.{IfOk-weaker}
 use Rattle.process_disk.specs.Disk.{Told}
 use Rattle.subsystem_store.specs.Opened.{Opened}
 use Rattle.history_files.specs.Boxes.{AreBoxes}
 use Rattle.engine_steps.specs.Engines.{full_history}
 use Rattle.engine_calls.specs.GateAnswers.{asked}
-use Rattle.command_refusals.specs.declared.status.Status.TheVariants.{Done}
+use Rattle.command_refusals.specs.declared.refusal.Refusal.{Refusal}
+use Rattle.command_refusals.specs.declared.refusal.Refusal.TheVariants.{NoMemory}
+use Rattle.command_refusals.specs.declared.status.Status.TheVariants.{Done, Exhausted}
 use Rattle.command_input.specs.FilesLeft.{files}
+use Rattle.command_input.specs.declared.said.Said.{Said}
+use Rattle.scenario_run.specs.Completeness.{IsReportThere}
 use Rattle.scenario_run.specs.Opening.{open_refusal}
 use Rattle.restart_run.specs.Boxes.{HaveValuesOf}
 use Rattle.restart_run.specs.Restart.{IsRestartFound, SaysAll, SaysPart}
@@ -69,3 +73,15 @@ returns-in-Refused-clause-complete g c =
     c.open_refusal.ensures.refusal
     ∙ found_is_complete c.sound_files_are_opened.ensures gate before after (Err (open_refusal why))
     (refused_found gate before after why c.in-Refused.ensures.back.0.fault c.in-Refused.ensures.restarted) d h told sound quiet
+
+-- a report of a part is there, or memory was wanting
+part_there : (r : Result Said Refusal) → IfOk r (λ s. s.status ≡ Exhausted) → IfErr r (λ e. e ≡ NoMemory) → IsReportThere r
+part_there (Ok s) said refused = inr said
+part_there (Err e) said refused = refused
+
+pub returns-in-Exhausted-clause-complete : goal.returns-in-Exhausted-clause-complete
+returns-in-Exhausted-clause-complete g c = λ d h told sound quiet.
+    let e = c.in-Exhausted.engine in
+    part_there c.said_of_part-found.result
+    (IfOk-weaker c.said_of_part-found.result (SaysPart e.catalog e.core c.in-Exhausted.process c.in-Exhausted.step) (λ s. s.status ≡ Exhausted) (λ s says. says.0) c.said_of_part-found.ensures.said)
+    c.said_of_part-found.ensures.refused

@@ -1,7 +1,7 @@
 use Rattle.process_disk.proofs.Images.{still_told}
 use Rattle.gate_log.proofs.StagedImages.{ok_so}
 use Rattle.store_group.specs.Groups.{AreAsBefore}
-use Rattle.store_group.proofs.InTurn.{run_of_all, runs_then}
+use Rattle.store_group.proofs.InTurn.{run_of_all, runs_then, stands_of_file}
 use Rattle.store_group.proofs.Synced.{all_on_disk, images_then_all}
 use Rattle.store_group.proofs.disk.put_behind_gates.Goals as goal
 
@@ -23,7 +23,7 @@ returns-clause-any_moment g c = λ told.
     let told_mid = still_told old mid c.write_each.ensures.rack.tells told in
     let written = c.in_ok-write_each.ensures.written told in
     images_then_all (AreAsBefore c.args.stores.now) old mid new (g.met.R.Rack.honest c.write_each.new.rack told_mid) (c.write_each.ensures.others told).follow.later (c.sync.ensures.all told_mid)
-    (c.write_each.ensures.any_moment told) (record { has = λ files left q s at. (written q s at).stands.each.has files left })
+    (c.write_each.ensures.any_moment told) (record { has = λ files left q s at. (stands_of_file.each s mid (written q s at).stands).has files left })
 
 pub returns-clause-others : goal.returns-clause-others
 returns-clause-others g c = λ told.

@@ -1,9 +1,26 @@
 use Rattle.std.proofs.Common.{◌≡◌, ◌+◌, ◌++◌, ◌∷◌, [], List, length, Some, ◌∙◌, sym, ap, subst}
 use Rattle.std.specs.List.{slice_get}
-use Rattle.subsystem_store.specs.Opened.{Opened}
+use Rattle.subsystem_store.specs.Opened.{Opened, Fits, account_of}
 use Rattle.store_group.proofs.InOrder.{of_became}
-use Rattle.store_tests.proofs.OneStore.{at_end, one_of}
+use Rattle.store_group.specs.Events.{effects_for, MayPrepare}
+use Rattle.store_tests.proofs.OneStore.{at_end, one_may, one_of}
 use Rattle.store_tests.proofs.effects.committed.Goals as goal
+
+pub prepare_each-requires-clause-may : goal.prepare_each-requires-clause-may
+prepare_each-requires-clause-may g c = λ q s at some.
+    let alone = c.push_reserved.ensures.items ∙ ap (λ (xs : List (Opened g.row.B.Denot)). xs ++ c.make_room.new.self ∷ []) c.in-Ok-with_capacity.ensures.items in
+    let is = one_of c.make_room.new.self q s (subst (λ xs. slice_get xs q ≡ Some s) alone at) in
+    let room = c.make_room.ensures.same in
+    let unused = c.in-Ok.ensures.unused in
+    let may = one_may c.args.effect c.make_room.new.self _ c.requires.forward (room.2 ∙ unused.2) (room.3 ∙ unused.3) c.in-Ok-make_room.ensures.ok in
+    subst (λ (x : Opened g.row.B.Denot). MayPrepare x (effects_for (c.new.result ∷ []) q)) (sym is.1)
+    (subst (λ n. MayPrepare c.make_room.new.self (effects_for (c.new.result ∷ []) n)) (sym is.0) (subst (MayPrepare c.make_room.new.self) (sym c.new.ensures) may))
+
+pub prepare_each-requires-clause-fits : goal.prepare_each-requires-clause-fits
+prepare_each-requires-clause-fits g c = λ q s at.
+    let alone = c.push_reserved.ensures.items ∙ ap (λ (xs : List (Opened g.row.B.Denot)). xs ++ c.make_room.new.self ∷ []) c.in-Ok-with_capacity.ensures.items in
+    let is = one_of c.make_room.new.self q s (subst (λ xs. slice_get xs q ≡ Some s) alone at) in
+    subst (λ (x : Opened g.row.B.Denot). Fits g.B.Resource (account_of x)) (sym is.1) c.make_room.ensures.fits
 
 pub commit_each-requires-clause-order : goal.commit_each-requires-clause-order
 commit_each-requires-clause-order g c =

@@ -1,12 +1,13 @@
 use Rattle.std.proofs.Common.{◌≡◌, ◌∙◌, ◌<◌, ap, sym, subst}
 use Rattle.std.specs.Prelude.{OnOk}
+use Rattle.std.proofs.lemmas.Result.{on_ok_weaker}
 use Rattle.history_files.specs.Effects.{subsystem_of}
 use Rattle.history_files.specs.Laws.{next_effect}
 use Rattle.history_files.specs.Rooms.{HasRoomAt}
 use Rattle.history_files.specs.Standing.{EachFits}
 use Rattle.engine_steps.specs.Engines.{AreAtRest, full_history}
 use Rattle.engine_steps.specs.Pieces.{act_of}
-use Rattle.engine_steps.proofs.MadeRoom.{room_rests}
+use Rattle.engine_steps.proofs.MadeRoom.{room_at, room_rests}
 use Rattle.engine_steps.proofs.Subsystems.{subsystem_low}
 use Rattle.engine_steps.proofs.engines.Engine.make_room.Goals as goal
 
@@ -35,4 +36,5 @@ returns-clause-ok g c =
     subst (λ x. OnOk c.make_room.result (HasRoomAt (subsystem_of x.catalog.ops (act_of x.core.plans p).op) (next_effect x.catalog.ops (full_history x.core) (act_of x.core.plans p)).call.key stores)) c.self.view_is
     (subst (λ a. OnOk c.make_room.result (HasRoomAt (subsystem_of c.self.inside.catalog.ops a.op) (next_effect c.self.inside.catalog.ops (full_history c.self.inside.core) a).call.key stores)) act
     (subst (λ q. OnOk c.make_room.result (HasRoomAt q (next_effect c.self.inside.catalog.ops (full_history c.self.inside.core) c.act_of-entry.result).call.key stores)) is
-    (subst (λ x. OnOk c.make_room.result (HasRoomAt c.subsystem_of-q.result x.call.key stores)) effect c.make_room.ensures.ok)))
+    (subst (λ x. OnOk c.make_room.result (HasRoomAt c.subsystem_of-q.result x.call.key stores)) effect
+    (on_ok_weaker c.make_room.result (room_at c.subsystem_of-q.result c.next_effect-effect.result.call.key c.self.inside.files.stores stores) c.make_room.ensures.ok))))

@@ -1,7 +1,7 @@
-use Rattle.std.proofs.Common.{◌∙◌, List, Option, length, arith, ap, sym, subst}
+use Rattle.std.proofs.Common.{◌∙◌, List, length, arith, ap, sym, subst}
 use Rattle.process_disk.specs.Disk.{Told}
 use Rattle.process_disk.specs.Images.{EachImage}
-use Rattle.gate_log.specs.Staging.{unstaged, with_staged}
+use Rattle.gate_log.specs.Staging.{staging_all, unstaged, with_staged}
 use Rattle.gate_log.specs.Standing.{LogState}
 use Rattle.process_journal.specs.Opened.{GoesOnStaged}
 use Rattle.subsystem_store.specs.declared.effect.Effect.{Effect}
@@ -9,14 +9,14 @@ use Rattle.process_core.proofs.FewEvents.{few_events}
 use Rattle.history_files.specs.Sound.{IsSoundForEither}
 use Rattle.history_files.specs.Standing.{EachFits, Stand}
 use Rattle.engine_steps.specs.Engines.{EngineState, full_history}
-use Rattle.engine_steps.specs.Groups.{IsGroupRecorded, MayBeRecorded, bodies_of, staging_all, with_events}
+use Rattle.engine_steps.specs.Groups.{IsGroupRecorded, MayBeRecorded, bodies_of, with_events}
 use Rattle.engine_steps.proofs.GroupSteps.{OfStaged, files_are, group_goes_on, group_recorded, of_group}
 use Rattle.engine_steps.proofs.engines.Engine.record_group.Goals as goal
 
 pub stage_each-requires-clause-room : goal.stage_each-requires-clause-room
 stage_each-requires-clause-room g c =
     let e : EngineState g.row.R.Denot g.row.B.Denot = record { core = c.self.inside.core; catalog = c.self.inside.catalog; files = c.self.inside.files; phase = c.self.inside.phase } in
-    let may = subst (λ x. (group : List (Option Effect)) × MayBeRecorded x (g.R.Rack.disk x.files.rack) c.args.events.now group) (sym c.self.view_is) c.requires.may in
+    let may = subst (λ x. (group : List (List Effect)) × MayBeRecorded x (g.R.Rack.disk x.files.rack) c.args.events.now group) (sym c.self.view_is) c.requires.may in
     let few = few_events c.self.inside.core c.run_holds.ensures in
     let log = c.unstage_records.ensures.journal in
     omega (arith, few, c.requires.events.few, may.1.prepared.count, ap (λ (l : LogState). l.count) log, ap (λ (l : LogState). length l.staged) log)
@@ -24,7 +24,7 @@ stage_each-requires-clause-room g c =
 pub record_staged-requires-clause-goes_on : goal.record_staged-requires-clause-goes_on
 record_staged-requires-clause-goes_on g c =
     let e : EngineState g.row.R.Denot g.row.B.Denot = record { core = c.self.inside.core; catalog = c.self.inside.catalog; files = c.self.inside.files; phase = c.self.inside.phase } in
-    let may = subst (λ x. (group : List (Option Effect)) × MayBeRecorded x (g.R.Rack.disk x.files.rack) c.args.events.now group) (sym c.self.view_is) c.requires.may in
+    let may = subst (λ x. (group : List (List Effect)) × MayBeRecorded x (g.R.Rack.disk x.files.rack) c.args.events.now group) (sym c.self.view_is) c.requires.may in
     let files = c.stage_each.new.files in
     let is = files_are e.files files (staging_all (unstaged e.files.journal) (bodies_of c.args.events.now)) (c.stage_each.ensures.journal ∙ ap (λ l. staging_all l (bodies_of c.args.events.now)) c.unstage_records.ensures.journal)
     (c.stage_each.ensures.same.0 ∙ c.unstage_records.ensures.same.0) (c.stage_each.ensures.same.1 ∙ c.unstage_records.ensures.same.1) in
@@ -39,7 +39,7 @@ returns-in-Ok-clause-recorded g c =
     let staged = c.stage_each.ensures.journal ∙ ap (λ l. staging_all l (bodies_of c.args.events.now)) c.unstage_records.ensures.journal in
     let same = c.stage_each.ensures.same.0 ∙ c.unstage_records.ensures.same.0 in
     let is = files_are e.files c.stage_each.new.files log staged same (c.stage_each.ensures.same.1 ∙ c.unstage_records.ensures.same.1) in
-    subst (λ x. (group : List (Option Effect)) → MayBeRecorded x (g.R.Rack.disk x.files.rack) c.args.events.now group
+    subst (λ x. (group : List (List Effect)) → MayBeRecorded x (g.R.Rack.disk x.files.rack) c.args.events.now group
     → IsGroupRecorded (record { core = e.core; catalog = e.catalog; files = files; phase = e.phase }) (g.R.Rack.disk files.rack) group (with_events (full_history x.core) c.args.events.now)) c.self.view_is
     (λ group may. group_recorded e g.R.Rack.disk c.args.events.now group c.books_come_to_groups.ensures.prepared may files (c.record_staged.ensures.same ∙ same) (c.in-Ok.ensures.ok ∙ ap with_staged staged)
     (λ told. of_group e g.R.Rack.disk c.args.events.now group c.books_come_to_groups.ensures.prepared may {P = λ d h after. Stand d after files.journal files.stores (g.R.Rack.disk files.rack)}
@@ -49,7 +49,7 @@ returns-in-Ok-clause-recorded g c =
 pub returns-in-Ok-clause-any_moment : goal.returns-in-Ok-clause-any_moment
 returns-in-Ok-clause-any_moment g c =
     let e : EngineState g.row.R.Denot g.row.B.Denot = record { core = c.self.inside.core; catalog = c.self.inside.catalog; files = c.self.inside.files; phase = c.self.inside.phase } in
-    let may = subst (λ x. (group : List (Option Effect)) × MayBeRecorded x (g.R.Rack.disk x.files.rack) c.args.events.now group) (sym c.self.view_is) c.requires.may in
+    let may = subst (λ x. (group : List (List Effect)) × MayBeRecorded x (g.R.Rack.disk x.files.rack) c.args.events.now group) (sym c.self.view_is) c.requires.may in
     let log : LogState = staging_all (unstaged e.files.journal) (bodies_of c.args.events.now) in
     let is = files_are e.files c.stage_each.new.files log (c.stage_each.ensures.journal ∙ ap (λ l. staging_all l (bodies_of c.args.events.now)) c.unstage_records.ensures.journal)
     (c.stage_each.ensures.same.0 ∙ c.unstage_records.ensures.same.0) (c.stage_each.ensures.same.1 ∙ c.unstage_records.ensures.same.1) in
@@ -65,7 +65,7 @@ returns-in-Ok-clause-fits g c = subst (EachFits g.B.Resource) (sym (c.record_sta
 pub returns-in-Err-clause-any_moment : goal.returns-in-Err-clause-any_moment
 returns-in-Err-clause-any_moment g c =
     let e : EngineState g.row.R.Denot g.row.B.Denot = record { core = c.self.inside.core; catalog = c.self.inside.catalog; files = c.self.inside.files; phase = c.self.inside.phase } in
-    let may = subst (λ x. (group : List (Option Effect)) × MayBeRecorded x (g.R.Rack.disk x.files.rack) c.args.events.now group) (sym c.self.view_is) c.requires.may in
+    let may = subst (λ x. (group : List (List Effect)) × MayBeRecorded x (g.R.Rack.disk x.files.rack) c.args.events.now group) (sym c.self.view_is) c.requires.may in
     let log : LogState = staging_all (unstaged e.files.journal) (bodies_of c.args.events.now) in
     let is = files_are e.files c.stage_each.new.files log (c.stage_each.ensures.journal ∙ ap (λ l. staging_all l (bodies_of c.args.events.now)) c.unstage_records.ensures.journal)
     (c.stage_each.ensures.same.0 ∙ c.unstage_records.ensures.same.0) (c.stage_each.ensures.same.1 ∙ c.unstage_records.ensures.same.1) in

@@ -17,7 +17,7 @@ returns-clause-written g c = rw (← c.self.view_is) (λ told bodies stands.
     let new = g.R.Rack.disk c.write.new.rack in
     let told_new = still_told old new c.write.ensures.rack.tells told in
     let some = subst (λ l. l.staged ≢ []) (sym c.self.view_is) c.requires.staged in
-    let by_write = staged_written (the_view c.self.inside) bodies _ old new (g.met.R.Rack.honest c.args.rack.now told) (g.met.R.Rack.honest c.write.new.rack told_new) c.self.invariant.0 some c.self.invariant.5 stands (c.write.ensures.run told) in
+    let by_write = staged_written (the_view c.self.inside) bodies _ old new (g.met.R.Rack.honest c.args.rack.now told) (g.met.R.Rack.honest c.write.new.rack told_new) c.self.invariant.0 some c.self.invariant.4 stands (c.write.ensures.run told) in
     ok_so c.write.result (λ is. by_write (is ∙ ap (put old.files c.self.inside.file (c.self.inside.end + 1)) c.behind_gate.ensures)) (c.write.ensures.written told))
 
 pub returns-clause-any_moment : goal.returns-clause-any_moment

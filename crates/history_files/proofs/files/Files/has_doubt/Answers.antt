@@ -1,16 +1,16 @@
-use Rattle.std.proofs.Common.{◌∙◌, is_some, arith, ap, sym}
+use Rattle.std.proofs.Common.{◌≡◌, ◌∙◌, ◌==◌, List, [], length, ap, arith, sym}
 use Rattle.std.proofs.lemmas.Option.{slice_get_within}
-use Rattle.history_files.proofs.NoDoubt.{still_some}
+use Rattle.subsystem_store.specs.declared.effect.Effect.{Effect}
 use Rattle.history_files.proofs.Places.{place_has}
 use Rattle.history_files.proofs.files.Files.has_doubt.Goals as goal
 
-pub returns-then-is_some-clause-some : goal.returns-then-is_some-clause-some
-returns-then-is_some-clause-some g c none =
+pub returns-then-not-is_empty-clause-some : goal.returns-then-not-is_empty-clause-some
+returns-then-not-is_empty-clause-some g c none =
     let q = c.loop-q.q in
     let stores = c.args.self.now.stores in
     let s = place_has stores q (omega (arith, c.loop-q-test.true, c.stores_hold.ensures.eight)) in
-    let is = c.in_doubt.ensures s.0 s.1 ∙ none q s.0 s.1 in
-    sym c.if-is_some.true ∙ c.is_some.ensures ∙ sym (still_some c.in_doubt.result) ∙ ap is_some is
+    let is : c.in_doubt.result.now ≡ [] = c.in_doubt.ensures s.0 s.1 ∙ none q s.0 s.1 in
+    sym (c.is_empty.ensures ∙ ap (λ (es : List Effect). length es == 0) is) ∙ c.if-not-is_empty.true
 
 pub returns-clause-settled : goal.returns-clause-settled
 returns-clause-settled g c none q s at =

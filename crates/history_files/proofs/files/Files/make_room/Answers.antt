@@ -1,12 +1,10 @@
 use Rattle.std.proofs.Common.{◌≡◌, Some, ap, sym, subst}
-use Rattle.std.specs.Prelude.{slice_set}
 use Rattle.std.proofs.lemmas.Result.{on_ok_weaker}
 use Rattle.std.specs.List.{slice_get}
-use Rattle.subsystem_store.specs.Opened.{Opened}
-use Rattle.history_files.specs.Rooms.{MakesRoom}
+use Rattle.history_files.specs.Rooms.{AddsRoom, KeepsRoom, MakesRoom}
 use Rattle.history_files.specs.Standing.{EachFits}
+use Rattle.history_files.proofs.Answered.{OnErr-then}
 use Rattle.history_files.proofs.CalledStore.{it_fits}
-use Rattle.history_files.proofs.NextBooks.{the_set}
 use Rattle.history_files.proofs.OneStore.{changed, fits_with, stores_with}
 use Rattle.history_files.proofs.Places.{at_place}
 use Rattle.history_files.proofs.files.Files.make_room.Given as given
@@ -46,5 +44,14 @@ returns-clause-changes g c =
 
 pub returns-clause-ok : goal.returns-clause-ok
 returns-clause-ok g c =
-    on_ok_weaker c.make_room.result (λ ready s at. subst (λ (x : Opened _). x.ready ≡ Some c.args.key)
-    (sym (the_set c.self.inside.stores.items c.from.result c.make_room.new.self s (subst (λ k. slice_get (slice_set c.self.inside.stores.items c.from.result c.make_room.new.self) k ≡ Some s) (sym c.from.ensures) at))) ready) c.make_room.ensures.ok
+    let at = its_store g (goal.at.returns-clause-ok g c).After-index_mut in
+    on_ok_weaker c.make_room.result
+    (λ ready. changed c.self.inside.stores.items c.args.q c.from.result c.index_mut.result.now c.make_room.new.self c.from.ensures at (AddsRoom c.args.key) _ (ap (λ f. f.stores) c.self.view_is) ready)
+    c.make_room.ensures.ok
+
+pub returns-clause-err : goal.returns-clause-err
+returns-clause-err g c =
+    let at = its_store g (goal.at.returns-clause-err g c).After-index_mut in
+    OnErr-then
+    (λ ready. changed c.self.inside.stores.items c.args.q c.from.result c.index_mut.result.now c.make_room.new.self c.from.ensures at KeepsRoom _ (ap (λ f. f.stores) c.self.view_is) ready)
+    c.make_room.result c.make_room.ensures.err

@@ -3,7 +3,7 @@ use Rattle.process_disk.specs.Disk.{Told}
 use Rattle.process_disk.specs.Images.{EachImage, ImagesFollow}
 use Rattle.schedule_model.specs.declared.history.History.{History}
 use Rattle.commute_table.specs.declared.catalog.Catalog.{Catalog}
-use Rattle.store_group.specs.Events.{BecomeEach, IsPrepared, IsUnchanged, MayPrepareEach, effect_for}
+use Rattle.store_group.specs.Events.{BecomeEach, IsPrepared, IsUnchanged, MayPrepareEach, effects_for}
 use Rattle.history_files.specs.Groups.{LacksEach}
 use Rattle.history_files.specs.Sound.{IsSound}
 use Rattle.history_files.specs.Standing.{AreGoodBooks, EachFits, Stand}
@@ -93,7 +93,7 @@ returns-clause-good g c =
 
 pub returns-clause-ok : goal.returns-clause-ok
 returns-clause-ok g c =
-    subst (λ ss. OnOk c.prepare_each.result (BecomeEach (λ q s t. IsPrepared (effect_for c.args.group.now q) s t) ss c.prepare_each.new.stores.items)) (ap (λ f. f.stores) c.self.view_is) c.prepare_each.ensures.ok
+    subst (λ ss. OnOk c.prepare_each.result (BecomeEach (λ q s t. IsPrepared (effects_for c.args.group.now q) s t) ss c.prepare_each.new.stores.items)) (ap (λ f. f.stores) c.self.view_is) c.prepare_each.ensures.ok
 
 pub returns-clause-err : goal.returns-clause-err
 returns-clause-err g c =

@@ -1,5 +1,5 @@
-use Rattle.std.proofs.Common.{◌≡◌, Some, false, sym, ◌∙◌, ap, subst, OnOk}
-use Rattle.std.specs.Prelude.{slice_set, IsSome}
+use Rattle.std.proofs.Common.{◌≡◌, ◌≢◌, [], Some, false, sym, ◌∙◌, ap, subst, OnOk}
+use Rattle.std.specs.Prelude.{slice_set}
 use Rattle.std.specs.List.{slice_get}
 use Rattle.process_disk.specs.Disk.{Told}
 use Rattle.process_disk.specs.Images.{EachImage}
@@ -21,9 +21,9 @@ use Rattle.history_files.proofs.files.Files.roll_back.Goals.{After-index_mut}
 its_store : (g : given.Over) (c : goal.After-index_mut g) → slice_get c.self.inside.stores.items c.args.q ≡ Some c.index_mut.result.now
 its_store g c = at_place _ c.args.q _ _ c.from.ensures c.self.invariant.0.eight c.requires.subsystem c.index_mut.ensures.value
 
--- and what is in doubt in it
-has_doubt : (g : given.Over) (c : goal.After-index_mut g) → IsSome c.index_mut.result.now.doubt
-has_doubt g c = asked_of_it _ _ c.self.view_is c.args.q _ (its_store g c) (λ s. IsSome s.doubt) c.requires.doubt
+-- in which something is in doubt
+has_doubt : (g : given.Over) (c : goal.After-index_mut g) → c.index_mut.result.now.doubt ≢ []
+has_doubt g c = asked_of_it _ _ c.self.view_is c.args.q _ (its_store g c) (λ s. s.doubt ≢ []) c.requires.doubt
 
 pub roll_back-requires-clause-doubt : goal.roll_back-requires-clause-doubt
 roll_back-requires-clause-doubt g c = has_doubt g (goal.at.roll_back-requires-clause-doubt g c).After-index_mut
@@ -50,14 +50,13 @@ returns-clause-acknowledged g c =
     let q = c.args.q in
     let before = (goal.at.returns-clause-acknowledged g c).After-index_mut in
     let at = its_store g before in
-    let some = has_doubt g before in
     let law = ended_is_good c.calls_make_good_books.ensures.commit c.calls_make_good_books.ensures.roll_back in
     let did = c.roll_back.ensures in
     subst (λ f. Told (g.R.Rack.disk f.rack) → (c' : Catalog) (h : History) → Stand c' h f.journal f.stores (g.R.Rack.disk f.rack) → DoubtIs false c'.ops h q f.stores → OnOk c.roll_back.result (Stand c' h c.self.inside.journal (slice_set c.self.inside.stores.items c.from.result c.roll_back.new.self) (g.R.Rack.disk c.roll_back.new.rack)))
     c.self.view_is
     (λ told c' h stand due. OnOk-both (λ ends stands. subst (λ r. Stand c' h c.self.inside.journal (slice_set c.self.inside.stores.items r c.roll_back.new.self) (g.R.Rack.disk c.roll_back.new.rack)) (sym c.from.ensures)
     (stands_with_roll_back law c' h c.self.inside.journal c.self.inside.stores.items (g.R.Rack.disk c.self.inside.rack) (g.R.Rack.disk c.roll_back.new.rack) q c.index_mut.result.now c.roll_back.new.self
-    (g.met.R.Rack.honest c.self.inside.rack told) (g.met.R.Rack.honest c.roll_back.new.rack (did.rack.tells ∙ told)) c.self.invariant.0 c.self.invariant.1 stand at some due (did.others told) did.same.1 (ends, did.same.2) stands))
+    (g.met.R.Rack.honest c.self.inside.rack told) (g.met.R.Rack.honest c.roll_back.new.rack (did.rack.tells ∙ told)) c.self.invariant.0 c.self.invariant.1 stand at due (did.others told) did.same.1 (ends, did.same.2) stands))
     c.roll_back.result did.ok (did.acknowledged told))
 
 pub returns-clause-any_moment : goal.returns-clause-any_moment
@@ -65,12 +64,11 @@ returns-clause-any_moment g c =
     let q = c.args.q in
     let before = (goal.at.returns-clause-any_moment g c).After-index_mut in
     let at = its_store g before in
-    let some = has_doubt g before in
     let law = ended_is_good c.calls_make_good_books.ensures.commit c.calls_make_good_books.ensures.roll_back in
     subst (λ f. Told (g.R.Rack.disk f.rack) → (c' : Catalog) (h : History) → Stand c' h f.journal f.stores (g.R.Rack.disk f.rack) → DoubtIs false c'.ops h q f.stores → EachImage (g.R.Rack.disk c.roll_back.new.rack) (g.R.Rack.disk f.rack).moment (IsSound c' h))
     c.self.view_is
     (λ told c' h stand due. images_of_roll_back law c' h c.self.inside.journal c.self.inside.stores.items (g.R.Rack.disk c.self.inside.rack) (g.R.Rack.disk c.roll_back.new.rack) q c.index_mut.result.now
-    (g.met.R.Rack.honest c.self.inside.rack told) c.self.invariant.0 c.self.invariant.1 stand at some due (c.roll_back.ensures.others told) (c.roll_back.ensures.any_moment told))
+    (g.met.R.Rack.honest c.self.inside.rack told) c.self.invariant.0 c.self.invariant.1 stand at due (c.roll_back.ensures.others told) (c.roll_back.ensures.any_moment told))
 
 pub returns-clause-fits : goal.returns-clause-fits
 returns-clause-fits g c =

@@ -10,5 +10,5 @@ returns-clause-any_moment g c = λ told catalog h after stands made good.
     images_appended catalog c.args.entry.now h after c.args.self.now.file _ _ stands.history made c.add.ensures.file (c.add.ensures.any_moment told _ stands.log)
 
 pub returns-clause-bytes : goal.returns-clause-bytes
-returns-clause-bytes g c = λ told catalog h after stands made before.
-    bytes_appended catalog c.args.entry.now h after c.args.self.now.file _ _ _ stands.history made c.add.ensures.file (c.add.ensures.bytes told _ stands.log) before
+returns-clause-bytes g c = λ told version catalog h after stands made before.
+    bytes_appended version catalog c.args.entry.now h after c.args.self.now.file _ _ _ stands.history made c.add.ensures.file (c.add.ensures.bytes told version _ stands.log) before

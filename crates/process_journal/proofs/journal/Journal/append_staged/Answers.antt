@@ -18,5 +18,5 @@ returns-clause-any_moment g c = rw (← c.self.view_is) (λ told catalog h after
     images_appended_all catalog rs h after _ c.self.inside.log.file _ _ stands.history are made c.self.invariant.0 (c.append_staged.ensures.any_moment told _ stands.log))
 
 pub returns-clause-bytes : goal.returns-clause-bytes
-returns-clause-bytes g c = rw (← c.self.view_is) (λ told catalog h after rs stands are made before.
-    bytes_appended_all catalog rs h after _ c.self.inside.log.file _ _ _ stands.history are made c.self.invariant.0 (c.append_staged.ensures.bytes told _ stands.log) before)
+returns-clause-bytes g c = rw (← c.self.view_is) (λ told version catalog h after rs stands are made before.
+    bytes_appended_all version catalog rs h after _ c.self.inside.log.file _ _ _ stands.history are made c.self.invariant.0 (c.append_staged.ensures.bytes told version _ stands.log) before)

@@ -1,5 +1,5 @@
-use Rattle.std.proofs.Common.{◌≡◌, ◌+◌, ◌≤◌, ◌++◌, length}
-use Rattle.subsystem_store.specs.Bodies.{store_bodies}
+use Rattle.std.proofs.Common.{◌≡◌, ◌+◌, ◌++◌, ℕ, List, length}
+use Rattle.subsystem_store.specs.Bodies.{AreBodiesOf}
 use Rattle.subsystem_store.specs.Order.{read_bodies, no_book}
 use Rattle.subsystem_store.specs.Opened.{Fits, book_of}
 use Rattle.subsystem_store.proofs.account.Account.replay.Given as goal
@@ -10,8 +10,9 @@ invariant-bodies g l = record {
   kind : l.account.kind ≡ l.fn.self.kind;
   sort : g.B.Resource.sort l.account.resource ≡ g.B.Resource.sort l.fn.self.resource;
   read : read_bodies l.fn.self.kind l.number l.rest (book_of l.account) ≡ read_bodies l.fn.self.kind 1 l.bodies no_book;
-  bodies : store_bodies l.account.book l.account.doubt ++ l.rest ≡ l.bodies;
-  few : l.number ≤ 32769;
+  taken : List (List ℕ);
+  of : AreBodiesOf l.account.book l.account.doubt taken;
+  all : taken ++ l.rest ≡ l.bodies;
   number : l.number + length l.rest ≡ 1 + length l.bodies;
 }
 

@@ -1,4 +1,5 @@
-use Rattle.std.proofs.Common.{◌∙◌, ap, sym, subst, length, arith}
+use Rattle.std.proofs.Common.{sym, subst}
+use Rattle.subsystem_store.specs.Bodies.{AreBodiesOf}
 use Rattle.subsystem_store.specs.Laws.{IsGoodBook}
 use Rattle.subsystem_store.specs.Opened.{book_of}
 use Rattle.subsystem_store.proofs.GoodBooks.{bodies_are_good}
@@ -8,9 +9,9 @@ use Rattle.subsystem_store.proofs.store.Store.open.Goals as goal
 pub invariant_of-result : goal.invariant_of-result
 invariant_of-result g c =
     let account = c.in_ok-account-in-Ok.account in
-    let bodies = c.in-Ok.bodies.items in
-    let is = c.in_ok-account-in-Ok.ensures.bodies ∙ c.deref.ensures.value in
-    opened_room account.book account.doubt bodies _ _ is c.in-Ok.ensures.log.count (omega (arith, c.in_ok-account-in-Ok.ensures.small, ap length c.deref.ensures.value)) c.in-Ok.ensures.log.last
+    let good = bodies_are_good c.new-account.result.kind c.deref.result.now (book_of account) c.in_ok-account-in-Ok.ensures.read in
+    let of = subst (AreBodiesOf account.book account.doubt) c.deref.ensures.value c.in_ok-account-in-Ok.ensures.bodies in
+    opened_room account.book account.doubt c.in-Ok.bodies.items _ of c.in-Ok.ensures.log.count c.in-Ok.ensures.log.last good.few
 
 pub returns-in_ok-account-in-Ok-clause-good : goal.returns-in_ok-account-in-Ok-clause-good
 returns-in_ok-account-in-Ok-clause-good g c =
