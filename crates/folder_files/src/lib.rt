@@ -12,6 +12,7 @@ mod barred;
 mod counts;
 mod folder;
 mod memory_folder;
+mod opened;
 mod system_folder;
 mod transfers;
 

@@ -9,62 +9,13 @@ ghost use Rattle.folder_files.specs.Folder.{IsSynced, folder_place};
 
 use crate::barred::bar_of;
 use crate::counts::{FOLDER, count};
+use crate::opened::{NAMES, Opened, fresh, held, is_folder, locked, to_read, to_write};
 use crate::{Access, Barred, Folder, Subject};
 use process_flow::Failed;
 use std::fs::{File, Metadata, OpenFile, OpenOptions, TryLockError};
-use std::io::{ErrorKind, Read, Seek, SeekFrom, Write};
+use std::io::ErrorKind;
 use std::rt::{Env, Files};
 use std::{env, fs, io};
-
-const NAMES: [&str; 9] = [
-    "tps.0", "tps.1", "tps.2", "tps.3", "tps.4", "tps.5", "tps.6", "tps.7", "tps.8",
-];
-
-// An open file, with the place at which the system goes on, where that is known.
-#[derive(Drop)]
-struct Opened {
-    file: File,
-    place: Option<u64>,
-    writable: bool,
-}
-
-impl Opened {
-    // Goes to a place, unless it is there.
-    fn go(&mut self, at: u64) -> io::Result<()> {
-        if self.place == Some(at) {
-            return Ok(());
-        }
-        self.place = None;
-        self.file.seek(SeekFrom::Start(at))?;
-        self.place = Some(at);
-        Ok(())
-    }
-
-    fn read(&mut self, at: u64, buf: &mut [u8]) -> io::Result<usize>
-        ensures { IfOk result (λ n. n ≤ length buf.old) }
-    {
-        self.go(at)?;
-        self.place = None;
-        let count = self.file.read(buf)?;
-        self.place = at.checked_add(count as u64);
-        Ok(count)
-    }
-
-    // A write of nothing has failed.
-    fn write(&mut self, at: u64, bytes: &[u8]) -> io::Result<usize>
-        ensures some { IfOk result (λ n. 0 < n) }
-        ensures bound { IfOk result (λ n. n ≤ length bytes.now) }
-    {
-        self.go(at)?;
-        self.place = None;
-        let count = self.file.write(bytes)?;
-        if count == 0 {
-            return Err(io::Error::from(ErrorKind::WriteZero));
-        }
-        self.place = at.checked_add(count as u64);
-        Ok(count)
-    }
-}
 
 /// The files `tps.0` to `tps.8` of the current folder, of whose contents it tells nothing. Each call is a call of the system,
 /// behind the opening of the file where that is due: for reading at the first look, and for writing at the first write, where
@@ -439,91 +390,5 @@ impl<F: Files<File = File> + Drop> Folder for SystemFolder<F> {
         }
         count(&mut self.syncs, FOLDER);
         Ok(())
-    }
-}
-
-// Something that takes the number of a standard stream which is closed.
-fn held<F: Files<File = File>>(rt: &F) -> Option<File> {
-    File::open(rt, "/").ok()
-}
-
-// The file, opened for reading where no call opened it before; none where it is absent.
-fn to_read<'a, F: Files<File = File>>(
-    rt: &F,
-    files: &'a mut [Option<Opened>; 9],
-    file: u8,
-) -> io::Result<Option<&'a mut Opened>>
-    requires { file < 9 }
-{
-    let slot = &mut files[usize::from(file)];
-    if slot.is_none() {
-        match File::open(rt, NAMES[usize::from(file)]) {
-            Ok(file) => *slot = Some(fresh(file, false)),
-            Err(error) if error.kind() == ErrorKind::NotFound => {}
-            Err(error) => return Err(error),
-        }
-    }
-    Ok(slot.as_mut())
-}
-
-// The file, opened for writing where no call did so before, and made where it is absent.
-fn to_write<'a, F: Files<File = File>>(
-    rt: &F,
-    files: &'a mut [Option<Opened>; 9],
-    file: u8,
-    names_synced: &mut bool,
-) -> io::Result<&'a mut Opened>
-    requires { file < 9 }
-{
-    let slot = &mut files[usize::from(file)];
-    if !is_writable(slot) {
-        *names_synced = false;
-        let mut how = OpenOptions::new();
-        how.read(true).write(true).create(true).truncate(false);
-        *slot = Some(fresh(how.open(rt, NAMES[usize::from(file)])?, true));
-    }
-    match slot {
-        Some(opened) => Ok(opened),
-        None => Err(io::Error::from(ErrorKind::NotFound)),
-    }
-}
-
-// Opens file 0 for writing and locks it, and says whether it is there; it is made, by this call alone, if that is asked.
-fn locked<F: Files<File = File>>(rt: &F, slot: &mut Option<Opened>, make: bool) -> io::Result<bool>
-    ensures { IsTrue make → IfOk result (λ yes. IsTrue yes) }
-{
-    let [journal, ..] = NAMES;
-    let mut how = OpenOptions::new();
-    how.read(true).write(true).create_new(make);
-    match how.open(rt, journal) {
-        Ok(file) => {
-            file.try_lock()?;
-            *slot = Some(fresh(file, true));
-            Ok(true)
-        }
-        Err(error) if !make && error.kind() == ErrorKind::NotFound => Ok(false),
-        Err(error) => Err(error),
-    }
-}
-
-fn is_folder(file: &File) -> bool {
-    match file.metadata() {
-        Ok(metadata) => metadata.is_dir(),
-        Err(_) => false,
-    }
-}
-
-fn fresh(file: File, writable: bool) -> Opened {
-    Opened {
-        file,
-        place: Some(0),
-        writable,
-    }
-}
-
-fn is_writable(slot: &Option<Opened>) -> bool {
-    match slot {
-        Some(opened) => opened.writable,
-        None => false,
     }
 }
