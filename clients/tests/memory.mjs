@@ -22,7 +22,7 @@ export class Memory {
 
   async prepare(work) {
     await new Promise(setImmediate);
-    this.onCall(++this.calls);
+    await this.onCall(++this.calls);
     play(this.prepares, work);
     const state = this.states.get(work.place) ?? State.ABSENT;
     const wanted = work.undo ? [State.COMMITTED, State.UNDO_PREPARED] : [State.ABSENT, State.PREPARED];

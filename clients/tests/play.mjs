@@ -221,6 +221,29 @@ async function playAbort(scenario) {
   }
 }
 
+/** As play_void in play.py. */
+async function playVoid(scenario) {
+  const folder = mkdtempSync(join(tmpdir(), "sihtolem-"));
+  try {
+    const memory = new Memory(OPERATIONS, { "a.ship": ["refused"] });
+    const pauses = { firstPause: 10, longestPause: 50 };
+    const scheduler = await Scheduler.open(join(folder, "files"), scenario, [memory], { program: PROGRAM, mark: "m", ...pauses, log });
+    memory.onCall = async (count) => {
+      if (count !== 4) return;
+      scheduler.abort("a");
+      await new Promise((resolve) => setTimeout(resolve, 300));
+    };
+    const outcome = await scheduler.submit("process a p pay charge 1 40 choose c place place 5 1 p ship ship 1 1 or r post mail 1 1 done end");
+    assert.deepEqual(outcome.path, ["pay", "post"]);
+    await scheduler.close();
+    assert.equal(memory.calls, 6);
+    const left = { "1.pay": State.COMMITTED, "1.place": State.UNDONE, "1.post": State.COMMITTED };
+    assert.deepEqual(Object.fromEntries(memory.states), left);
+  } finally {
+    rmSync(folder, { recursive: true, force: true });
+  }
+}
+
 /** As play_fence in play.py. Words of a refusal that sound like an error of SQLite are a refusal. */
 async function playFence() {
   const work = new Work("m", "2.x", false, "order_1", "take", 3, 1);
@@ -322,6 +345,7 @@ for (const story of stories.stories) {
 }
 await playClosing(stories.scenario);
 await playAbort(stories.scenario);
+await playVoid(stories.scenario);
 await playFence();
 await playWorker();
 await playResuming(stories.scenario);

@@ -205,6 +205,19 @@ def play_abort(scenario):
         check("what is left", memory.states, {"1.reserve": State.UNDONE, "1.pay": State.ABSENT})
 
 
+def play_void(scenario):
+    """An undo is with its system when its process is called off, so the same undo is handed out again. It begins once the first one is taken
+    back: else that would take back the second one, whose name is the same."""
+    with tempfile.TemporaryDirectory() as folder:
+        memory = Memory(OPERATIONS, {"a.ship": ["refused"]})
+        with Scheduler(f"{folder}/files", scenario, [memory], program=PROGRAM, mark="m", first_pause=0.01, longest_pause=0.05) as scheduler:
+            memory.on_call = lambda count: (scheduler.abort("a"), time.sleep(0.3)) if count == 4 else None
+            future = scheduler.submit("process a p pay charge 1 40 choose c place place 5 1 p ship ship 1 1 or r post mail 1 1 done end")
+            check("called off within an undo", future.result(30).path, ("pay", "post"))
+        check("calls", memory.calls, 6)
+        check("what is left", memory.states, {"1.pay": State.COMMITTED, "1.place": State.UNDONE, "1.post": State.COMMITTED})
+
+
 class Heard:
     """An observer that keeps what it hears."""
 
@@ -302,6 +315,7 @@ def main():
         play_story(stories["scenario"], story)
     play_closing(stories["scenario"])
     play_abort(stories["scenario"])
+    play_void(stories["scenario"])
     play_waits(stories["scenario"])
     play_fence()
     play_resuming(stories["scenario"])

@@ -396,10 +396,12 @@ export class Scheduler {
   }
 
   /** A piece builds on what took effect before it was handed out: so its work begins once that is committed, where the two conflict or are of
-   * one process. */
+   * one process. An earlier piece of its process that is still out is void, and may have its name: so that one is taken back first. */
   #takePiece(piece) {
     const job = this.#job(piece);
-    job.behind = new Set([...this.unsettled].filter(([, other]) => this.#buildsOn(piece, other.piece)).map(([number]) => number));
+    const builtOn = [...this.unsettled].filter(([, other]) => this.#buildsOn(piece, other.piece));
+    const voided = [...this.jobs].filter(([, other]) => other.piece.process === piece.process);
+    job.behind = new Set([...builtOn, ...voided].map(([number]) => number));
     this.jobs.set(piece.number, job);
     if (!job.behind.size) this.#prepare(job);
   }
@@ -512,6 +514,8 @@ export class Scheduler {
       job.tries = 0;
       this.unsettled.set(job.piece.number, job);
       this.#settle(job, tookEffect);
+    } else {
+      this.#letGo(job);
     }
   }
 
@@ -543,6 +547,11 @@ export class Scheduler {
 
   #settled(job) {
     this.unsettled.delete(job.piece.number);
+    this.#letGo(job);
+  }
+
+  /** Nothing of it is left to be settled: what waits behind it alone begins. */
+  #letGo(job) {
     for (const other of this.jobs.values()) {
       if (other.behind.delete(job.piece.number) && !other.behind.size && this.#closing !== "now") this.#prepare(other);
     }

@@ -492,9 +492,11 @@ class Scheduler:
 
     def _take_piece(self, piece: Piece) -> None:
         """A piece builds on what took effect before it was handed out: so its work begins once that is committed, where the two
-        conflict or are of one process."""
+        conflict or are of one process. An earlier piece of its process that is still out is void, and may have its name: so that
+        one is taken back first."""
         job = self._job(piece)
         job.behind = {number for number, other in self._unsettled.items() if self._builds_on(piece, other.piece)}
+        job.behind |= {number for number, other in self._jobs.items() if other.piece.process == piece.process}
         self._jobs[piece.number] = job
         if not job.behind:
             self._prepare(job)
@@ -610,6 +612,8 @@ class Scheduler:
             job.tries = 0
             self._unsettled[job.piece.number] = job
             self._settle(job, took_effect)
+        else:
+            self._let_go(job)
 
     def _note_answer(self, process: Process, job: Job, answer: str, took_effect: bool) -> None:
         if took_effect and job.work is None:
@@ -640,6 +644,10 @@ class Scheduler:
 
     def _settled(self, job: Job) -> None:
         del self._unsettled[job.piece.number]
+        self._let_go(job)
+
+    def _let_go(self, job: Job) -> None:
+        """Nothing of it is left to be settled: what waits behind it alone begins."""
         for other in self._jobs.values():
             if job.piece.number in other.behind:
                 other.behind.discard(job.piece.number)

@@ -5,3 +5,6 @@ mod Starting
 mod ScenarioPlans
 mod LooserScenarios
 mod JournalParts
+mod SerialSteps
+mod SameValues
+mod ToldValues

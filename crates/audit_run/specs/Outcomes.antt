@@ -17,6 +17,7 @@ use Rattle.audit_core.specs.declared.judging.Audited.{Audited}
 use Rattle.audit_core.specs.declared.judging.Audited.TheVariants.{Reducible, Barred, Cycle}
 use Rattle.audit_text.specs.Logs.{Log}
 use Rattle.audit_text.specs.Copies.{first_out_of_order}
+use Rattle.serial_values.specs.Told.{values_text}
 use Rattle.command_refusals.specs.declared.status.Status.{Status}
 use Rattle.command_refusals.specs.declared.status.Status.TheVariants.{Done, BadInput, Limit, NotReduced}
 use Rattle.audit_run.specs.declared.judging.Outcome.{Outcome}
@@ -87,9 +88,22 @@ outcome_text form plans ops n (Steps k) = codes "limit total " ++ decimal k ++ c
 outcome_text form plans ops n (OutOfOrder k) = codes "not own order at " ++ decimal k ++ codes "\n"
 outcome_text form plans ops n (Found found) = audited_text form plans ops n found
 
--- what is found of a log is said, with its status
+-- what is told of the values behind an answer: of those that its serial list leaves on empty books, if it has one
+abbrev pub audited_values : Catalog → List Plan → Audited → List ℕ
+audited_values c plans (Reducible serial) = values_text c plans serial.items
+audited_values c plans (Barred prefix left) = []
+audited_values c plans (Cycle prefix left processes) = []
+
+-- and behind what is found
+abbrev pub outcome_values : Catalog → List Plan → Outcome → List ℕ
+outcome_values c plans (Events n) = []
+outcome_values c plans (Steps n) = []
+outcome_values c plans (OutOfOrder n) = []
+outcome_values c plans (Found found) = audited_values c plans found
+
+-- what is found of a log is said, and what it leaves of the values, with its status
 pub record IsSaidOf (c : Catalog) (l : Log) (text : List ℕ) (status : Status) : Type 0 where
   pub outcome : Outcome
   pub found : IsOutcome c l outcome
-  pub printed : text ≡ outcome_text (form_of c) l.started c.ops (length l.events) outcome
+  pub printed : text ≡ outcome_text (form_of c) l.started c.ops (length l.events) outcome ++ outcome_values c l.started outcome
   pub ended : status ≡ outcome_status outcome

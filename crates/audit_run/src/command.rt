@@ -8,6 +8,7 @@ ghost use Rattle.audit_run.specs.Outcomes.{IsSaidOf};
 
 use crate::judging::outcome_of;
 use crate::printing::outcome_text;
+use crate::values::outcome_values;
 use audit_text::{Log, divide, read_log};
 use command_input::{Bound, NoPlans, Said, scenario_of, text_of};
 use command_refusals::{Refusal, Status};
@@ -32,7 +33,9 @@ fn said_of(alloc: Global, c: &Catalog, log: &Log<'_>) -> Result<Said, AllocError
     ensures { IfOk result (λ s. IsSaidOf c.now log.now s.text.items s.status) }
 {
     let outcome = outcome_of(alloc, c, log)?;
-    let text = outcome_text(alloc, c, log, &outcome)?;
+    let mut text = outcome_text(alloc, c, log, &outcome)?;
+    let values = outcome_values(alloc, c, log, &outcome)?;
+    text.extend_from_slice(&values)?;
     Ok(Said {
         text,
         status: outcome.status(),

@@ -118,8 +118,9 @@ pub(crate) const AUDIT: &str = "usage: tps audit [--history] [FILE | < INPUT]
 
 Reads a scenario, a line '%%' and then a log of what another scheduler did, in
 lines 'start NAME', 'do I.STEP', 'undo I.STEP' and 'end I'. It prints the serial
-list where each beginning of the log can be reduced, and else what is left of
-the least beginning that can't. It reads no file.
+list and the values that it leaves where each beginning of the log can be
+reduced, and else what is left of the least beginning that can't. It reads no
+file.
 With --history the input is a scenario alone, and the log is the history of the
 files. It first says whether the conflicts of the scenario allow each event:
 'legal', or 'not legal at N rule R' and the first event that they don't.

@@ -2,3 +2,4 @@ pub mod StepNames
 pub mod MoreStarts
 pub mod SpelledStarts
 pub mod AnsweredLines
+pub mod ActiveOnes

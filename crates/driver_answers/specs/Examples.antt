@@ -13,6 +13,7 @@ use Rattle.driver_requests.specs.declared.request.Happening.TheVariants.{Done, U
 use Rattle.driver_answers.specs.Happenings.{happening}
 use Rattle.driver_answers.specs.Serving.{happened, listed, with_call}
 use Rattle.driver_answers.specs.Starts.{started}
+use Rattle.driver_answers.specs.Waits.{last_event}
 
 -- step 0 of process 1 took effect and was undone, its step 1 stands
 abbrev pub worked : List Event
@@ -35,6 +36,13 @@ never_done = refl
 
 pub of_another : happening 2 0 worked ≡ NotDone
 of_another = refl
+
+-- its end is its last event, and another has none
+pub last_is_end : last_event 1 worked ≡ 5
+last_is_end = refl
+
+pub last_of_another : last_event 2 worked ≡ 0
+last_of_another = refl
 
 -- the same of a purchase
 abbrev pub bought : History

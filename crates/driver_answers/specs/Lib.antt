@@ -1,4 +1,5 @@
 pub mod Happenings
 pub mod Starts
+pub mod Waits
 pub mod Serving
 mod Examples

@@ -26,12 +26,13 @@ use Rattle.session_play.specs.Playing.{SessionState, plan_for, play, play_start}
 use Rattle.session_play.specs.declared.cut.Cut.{Cut}
 use Rattle.session_play.specs.declared.cut.Cut.TheVariants as cuts
 use Rattle.driver_requests.specs.declared.request.Request.{Request}
-use Rattle.driver_requests.specs.declared.request.Request.TheVariants.{Session, StartSpelled, Pieces, Happened, Started}
+use Rattle.driver_requests.specs.declared.request.Request.TheVariants.{Session, StartSpelled, Pieces, Waits, Happened, Started}
 use Rattle.driver_requests.specs.Answers.{bad_line_words, called_piece, framed, happening_words, no_step_words, numbered_lines}
 use Rattle.driver_requests.specs.Answers.{piece_call, with_words}
 use Rattle.driver_requests.specs.Requests.{request_of}
 use Rattle.driver_answers.specs.Happenings.{happening, step_named}
 use Rattle.driver_answers.specs.Starts.{started}
+use Rattle.driver_answers.specs.Waits.{waits}
 
 -- A dialogue between two lines: the machine, and the pieces at hand, in the order in which they were handed out and queued.
 pub record DriverState : Type 0 where
@@ -116,6 +117,7 @@ IsRequestAnswered c plans s n line None t text = (t ≡ s) × (text ≡ line_of 
 IsRequestAnswered c plans s n line (Some (Session l)) t text = IsSessionAnswered c plans s l t text
 IsRequestAnswered c plans s n line (Some StartSpelled) t text = IsSpelledAnswered c s n (drop 6 line) t text
 IsRequestAnswered c plans s n line (Some Pieces) t text = (t ≡ s) × (text ≡ numbered_lines (listed s.core.plans s.hand.unfinished))
+IsRequestAnswered c plans s n line (Some Waits) t text = (t ≡ s) × (text ≡ numbered_lines (waits s.core))
 IsRequestAnswered c plans s n line (Some (Happened i name)) t text =
     (t ≡ s) × (text ≡ line_of (happened (full_history s.core) i name))
 IsRequestAnswered c plans s n line (Some (Started name)) t text = (t ≡ s) × (text ≡ numbered_lines (started (full_history s.core) name))
@@ -134,6 +136,7 @@ LeadsTo c plans s line (Some (Session l)) core =
 LeadsTo c plans s line (Some StartSpelled) core =
     (p : Plan) × AreGoodPlans c.ops (drop 6 line) (p ∷ []) × (core ≡ (play_start (as_session s) p.name (Some p)).state.core)
 LeadsTo c plans s line (Some Pieces) core = core ≡ s.core
+LeadsTo c plans s line (Some Waits) core = core ≡ s.core
 LeadsTo c plans s line (Some (Happened i name)) core = core ≡ s.core
 LeadsTo c plans s line (Some (Started name)) core = core ≡ s.core
 
@@ -143,6 +146,7 @@ AsksToStart c plans line None p = ⊥
 AsksToStart c plans line (Some (Session l)) p = plan_for plans l ≡ Some p
 AsksToStart c plans line (Some StartSpelled) p = AreGoodPlans c.ops (drop 6 line) (p ∷ [])
 AsksToStart c plans line (Some Pieces) p = ⊥
+AsksToStart c plans line (Some Waits) p = ⊥
 AsksToStart c plans line (Some (Happened i name)) p = ⊥
 AsksToStart c plans line (Some (Started name)) p = ⊥
 

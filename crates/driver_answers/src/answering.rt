@@ -17,6 +17,7 @@ use crate::happenings::happened_text;
 use crate::listing::{add_handed, pieces_text};
 use crate::spelled::{bad_line, start_spelled};
 use crate::starts::started_text;
+use crate::waits::waits_text;
 use driver_requests::{Request, framed, request_of};
 use process_disk::Rack;
 use process_engine::Engine;
@@ -113,6 +114,7 @@ pub fn answer_line<R: Rack + Drop, B: Resource>(
         Some(Request::Session(line)) => answer_session(alloc, engine, plans, hand, &line),
         Some(Request::StartSpelled) => { start_spelled(alloc, engine, behind(line, 6), number) }
         Some(Request::Pieces) => Ok(pieces_text(alloc, engine.history(), &hand.unfinished)?),
+        Some(Request::Waits) => Ok(waits_text(alloc, engine)?),
         Some(Request::Happened(i, step)) => {
             Ok(happened_text(alloc, engine.history(), i, &step)?)
         }

@@ -4,6 +4,7 @@ use Rattle.std.specs.Io.KnownBytes.{Consumes, IsAtEnd}
 use Rattle.process_tree.specs.Making.{same_text}
 use Rattle.trace_verify.specs.Lines.{cut}
 use Rattle.command_input.specs.Inputs.{most_input}
+use Rattle.line_reader.specs.Taking.{IsReadAsNeeded}
 use Rattle.driver_input.specs.declared.parts.Part.{Part}
 use Rattle.driver_input.specs.declared.parts.Part.TheVariants.{Line, Mark, End, Long}
 
@@ -37,3 +38,4 @@ pub record IsPartTaken (ready left scenario longer : List ℕ) (before after : O
   pub gave : Consumes before after given
   pub part_is : IsPartOf (ready ++ given) left scenario longer part
   pub last : IsLastOf after part
+  pub needed : IsReadAsNeeded ready given

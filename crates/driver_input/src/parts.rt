@@ -1,8 +1,8 @@
 // The lines of a scenario, one after another.
-ghost use Rattle.std.specs.Prelude.{◌≡◌, ◌≤◌, ◌⊎◌, ◌∷◌, ◌++◌, [], List, ℕ, Option, IfOk, IfErr, OnOk};
+ghost use Rattle.std.specs.Prelude.{◌≡◌, ◌≤◌, ◌⊎◌, ◌∷◌, ◌++◌, [], List, ℕ, length, Option, IfOk, IfErr, OnOk};
 ghost use Rattle.process_flow.specs.Causes.{Rose};
 ghost use Rattle.command_input.specs.Inputs.{most_input};
-ghost use Rattle.line_reader.specs.Taking.{IsEndOf, IsFirstOf};
+ghost use Rattle.line_reader.specs.Taking.{IsEndOf, IsFirstOf, most_ahead};
 ghost use Rattle.line_reader.specs.declared.taken.TakeError.TheVariants as errors;
 ghost use Rattle.command_refusals.specs.declared.refusal.Refusal.TheVariants as refusals;
 ghost use Rattle.driver_input.specs.Parts.{IsLastOf, IsPartOf, IsPartTaken};
@@ -82,6 +82,7 @@ pub fn take_part<S: Source>(
 ) -> Result<Part, Refusal>
     ensures part { IfOk result
         (IsPartTaken reader.old reader.new scenario.old.items scenario.new.items (S.left source.old) (S.left source.new)) }
+    ensures ahead { length reader.new ≤ most_ahead }
     ensures refused { IfErr result
         (λ r. ((r ≡ refusals.ReadFault) × Rose (S.faults source.old) (S.faults source.new)) ⊎ (r ≡ refusals.NoMemory)) }
     ensures later { S.faults source.old ≤ S.faults source.new }

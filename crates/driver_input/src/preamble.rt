@@ -1,6 +1,7 @@
 // The scenario in front of the lines of a driver.
 ghost use Rattle.std.specs.Prelude.{◌≡◌, ◌≤◌, ◌<◌, [], length, IfOk, IfErr};
 ghost use Rattle.command_input.specs.Inputs.{input, most_input};
+ghost use Rattle.line_reader.specs.Taking.{most_ahead};
 ghost use Rattle.command_refusals.specs.declared.faults.Quantity.TheVariants as quantities;
 ghost use Rattle.command_refusals.specs.declared.refusal.Refusal.TheVariants as refusals;
 ghost use Rattle.driver_input.specs.Preamble.{HasNoScenario, IsScenarioTaken};
@@ -44,9 +45,12 @@ pub fn take_scenario<S: Source>(
 ) -> Result<Preamble, Refusal>
     requires { reader.old ≡ [] }
     ensures taken { IfOk result (λ p. IsScenarioTaken (S.left source.old) (S.left source.new) p.scenario.items reader.new p.first) }
+    // No more stands ready than a source is asked for at once.
+    ensures ahead { length reader.new ≤ most_ahead }
     ensures refused { IfErr result (λ r. HasNoScenario r (input S.Source source.old) (input S.Source source.new)) }
     ensures later { S.faults source.old ≤ S.faults source.new }
 {
+    reader.invariant_holds();
     let mut scenario = Vec::new(alloc);
     let mut number = 1;
     while scenario.len() <= MOST_INPUT as usize {

@@ -7,7 +7,7 @@ use Rattle.trace_verify.specs.Forms.{number_of}
 use Rattle.session_text.specs.declared.line.Line.{Line}
 use Rattle.session_text.specs.Forms.{line_of}
 use Rattle.driver_requests.specs.declared.request.Request.{Request}
-use Rattle.driver_requests.specs.declared.request.Request.TheVariants.{Session, StartSpelled, Pieces, Happened, Started}
+use Rattle.driver_requests.specs.declared.request.Request.TheVariants.{Session, StartSpelled, Pieces, Waits, Happened, Started}
 
 -- a process and the name of a step
 abbrev pub happened : List ℕ → ℕ → Option Request
@@ -37,9 +37,13 @@ more_words word rest =
     else (if same_text word (codes "started") then started_of rest
     else (if same_text word (codes "start") && is_spelled rest then Some StartSpelled else None))
 
+-- `pieces` or `waits`
+abbrev pub one_word : List ℕ → Option Request
+one_word word = if same_text word (codes "pieces") then Some Pieces else (if same_text word (codes "waits") then Some Waits else None)
+
 -- a line that no session has, cut behind its first word if it has more
 abbrev pub own_line : List ℕ → Option Parts → Option Request
-own_line line None = if same_text line (codes "pieces") then Some Pieces else None
+own_line line None = one_word line
 own_line line (Some p) = more_words p.0 p.1
 
 -- a line of a session, or else one of a driver's own

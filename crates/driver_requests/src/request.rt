@@ -11,6 +11,8 @@ pub enum Request {
     StartSpelled,
     /// The pieces that are unfinished.
     Pieces,
+    /// How each active process stands.
+    Waits,
     /// What became of the step of this name of this process.
     Happened(u32, Name),
     /// What became of the processes of this name.

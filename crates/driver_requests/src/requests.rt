@@ -1,6 +1,6 @@
 // Lines of a driver by their forms.
 ghost use Rattle.std.specs.Prelude.{◌≡◌, IfOk};
-ghost use Rattle.driver_requests.specs.Requests.{happened_of, is_spelled, more_words, request_of, started_of};
+ghost use Rattle.driver_requests.specs.Requests.{happened_of, is_spelled, more_words, one_word, request_of, started_of};
 
 use crate::Request;
 use process_text::is_word;
@@ -63,6 +63,19 @@ fn more_words(alloc: Global, word: &[u8], rest: &[u8]) -> Result<Option<Request>
     Ok(None)
 }
 
+// A line of one word.
+fn one_word(word: &[u8]) -> Option<Request>
+    ensures { result ≡ one_word word.now }
+{
+    if is_word(word, b"pieces") {
+        return Some(Request::Pieces);
+    }
+    if is_word(word, b"waits") {
+        return Some(Request::Waits);
+    }
+    None
+}
+
 /// What a line of a driver asks for, if it has a form.
 pub fn request_of(alloc: Global, line: &[u8]) -> Result<Option<Request>, AllocError>
     ensures { IfOk result (λ found. found ≡ request_of line.now) }
@@ -72,7 +85,6 @@ pub fn request_of(alloc: Global, line: &[u8]) -> Result<Option<Request>, AllocEr
     }
     match cut(line, b' ') {
         Some((word, rest)) => more_words(alloc, word, rest),
-        None if is_word(line, b"pieces") => Ok(Some(Request::Pieces)),
-        None => Ok(None),
+        None => Ok(one_word(line)),
     }
 }

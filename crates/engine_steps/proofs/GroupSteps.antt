@@ -1,15 +1,15 @@
 -- What the steps of a group make of an engine.
-use Rattle.std.proofs.Common.{◌≡◌, ◌∙◌, ◌+◌, ◌*◌, ◌-◌, ◌≤◌, ◌<◌, ℕ, List, [], ◌∷◌, append-nil, append_assoc, length, length-append, map, take, drop, get_or, refl, ap, sym, subst, arith}
+use Rattle.std.proofs.Common.{◌≡◌, ◌≢◌, ◌∙◌, ◌+◌, ◌*◌, ◌-◌, ◌≤◌, ◌<◌, ℕ, List, [], ◌∷◌, append-nil, append_assoc, length, length-append, map, take, drop, get_or, refl, ap, sym, subst, arith}
 use Rattle.std.proofs.lemmas.List.{take_all}
 use Rattle.gate_log.specs.LogFile.{records_size}
-use Rattle.gate_log.specs.Staging.{staging, staging_all, unstaged, with_staged}
+use Rattle.gate_log.specs.Staging.{MayOpen, staging, staging_all, unstaged, with_staged}
 use Rattle.gate_log.specs.Standing.{LogState}
 use Rattle.gate_log.proofs.Logs.{records_size-push}
 use Rattle.journal_records.specs.Bytes.{bytes_of}
 use Rattle.journal_records.specs.declared.record.Record.{Record}
-use Rattle.process_journal.specs.Bodies.{with_event}
+use Rattle.process_journal.specs.Bodies.{journal_bodies, with_event}
 use Rattle.process_journal.specs.Journals.{AreMadeBy}
-use Rattle.process_journal.specs.Opened.{GoesOnStaged}
+use Rattle.process_journal.specs.Staged.{IsOnDisk}
 use Rattle.history_files.specs.Groups.{GroupsAreSettled, GroupsComeTo, HasEachDoubt}
 use Rattle.process_tree.specs.Order.{Each}
 use Rattle.schedule_model.specs.declared.event.Event.{Event}
@@ -23,18 +23,21 @@ use Rattle.store_group.specs.Events.{BecomeEach, IsCommitted, IsPrepared, effect
 use Rattle.process_core.specs.Cores.{CoreState}
 use Rattle.history_files.specs.Standing.{AreGoodBooks, ComeTo, FilesState, Stand}
 use Rattle.engine_steps.specs.Engines.{AreAtRest, EngineState, full_history}
-use Rattle.engine_steps.specs.Groups.{AreInDoubt, IsGroupCommitted, IsGroupPrepared, IsGroupRecorded, IsNoStart, MayBeRecorded, bodies_of, record_for, with_events}
+use Rattle.engine_steps.specs.Groups.{AreGroupEvents, AreInDoubt, IsGroupCommitted, IsGroupPrepared, IsGroupRecorded, IsNoStart, MayBeRecorded, bodies_of, record_for, with_events}
 use Rattle.engine_steps.specs.declared.engines.Phase.{Phase}
 use Rattle.engine_steps.specs.declared.engines.Phase.TheVariants as phase
 
--- prepared behind files at rest, its effects are in doubt
-pub group_prepared : {R B : Type 0} (c : Catalog) (core : CoreState) (old new : FilesState R B) (before disk : Disk) (group : List (List Effect)) → AreAtRest c (full_history core) old before
-    → new.journal ≡ old.journal → BecomeEach (λ q s t. IsPrepared (effects_for group q) s t) old.stores new.stores → AreGoodBooks new.stores
-    → (Told disk → Stand c (full_history core) new.journal new.stores disk)
-    → IsGroupPrepared (record { core = core; catalog = c; files = new; phase = phase.UnderWay }) disk group
-group_prepared c core old new before disk group rest journal became good stand = record {
+-- prepared behind files at rest, its effects are in doubt, and its records on the disk
+pub group_prepared : {R B : Type 0} (c : Catalog) (core : CoreState) (old new : FilesState R B) (before disk : Disk) (events : List Event) (group : List (List Effect)) → AreAtRest c (full_history core) old before
+    → AreGroupEvents events → new.journal ≡ staging_all (unstaged old.journal) (bodies_of events) → BecomeEach (λ q s t. IsPrepared (effects_for group q) s t) old.stores new.stores → AreGoodBooks new.stores
+    → (Told disk → Stand c (full_history core) new.journal new.stores disk) → (Told disk → IsOnDisk new.journal c (full_history core) disk)
+    → IsGroupPrepared (record { core = core; catalog = c; files = new; phase = phase.UnderWay }) disk events group
+group_prepared c core old new before disk events group rest are journal became good stand there = record {
   phase = refl;
+  are = are;
   count = ap (λ l. l.count) journal ∙ rest.count;
+  staged = ap (λ l. l.staged) journal;
+  there = there;
   doubt = record { settled = old.stores; before = λ q s at. (rest.none q s at, rest.books q s at); became = became };
   good = good;
   stand = stand;
@@ -69,7 +72,7 @@ all_staged first log events [] none was = ap (λ bs. record { file = log.file; c
 all_staged first log events (x ∷ rest) none was = absurd (omega (arith, none))
 
 -- a log stands for what it does, whatever is staged in it
-stands_staged : {B : Type 0} (c : Catalog) (h : History) (log : LogState) (bodies : List (List ℕ)) (stores : List (Opened B)) (disk : Disk) → Stand c h log stores disk → Stand c h (staging_all (unstaged log) bodies) stores disk
+pub stands_staged : {B : Type 0} (c : Catalog) (h : History) (log : LogState) (bodies : List (List ℕ)) (stores : List (Opened B)) (disk : Disk) → Stand c h log stores disk → Stand c h (staging_all (unstaged log) bodies) stores disk
 stands_staged c h log bodies stores disk stand = record {
   journal = record {
     history = stand.journal.history;
@@ -88,10 +91,15 @@ pub files_are : {R B : Type 0} (old new : FilesState R B) (log : LogState) → n
 files_are old new log journal stores rack = ap (λ x. record { rack = x; journal = new.journal; stores = new.stores }) rack ∙ ap (λ x. record { rack = old.rack; journal = x; stores = new.stores }) journal
     ∙ ap (λ x. record { rack = old.rack; journal = log; stores = x }) stores
 
--- what is so of each history that the files stand for, and that goes on by what is staged
-abbrev pub OfStaged : {R B : Type 0} → (R → Disk) → FilesState R B → (Catalog → History → History → Type 0) → Type 0
-OfStaged disk files P = Told (disk files.rack) → (c : Catalog) (h after : History) (rs : List Record) → Stand c h files.journal files.stores (disk files.rack)
-    → files.journal.staged ≡ map bytes_of rs → AreMadeBy c rs h after → ComeTo c.ops after files.stores → P c h after
+-- what is so of each history that the files stand for, and that goes on by what is on the disk behind the closed gate
+abbrev pub OfWritten : {R B : Type 0} → (R → Disk) → FilesState R B → (Catalog → History → History → Type 0) → Type 0
+OfWritten disk files P = Told (disk files.rack) → (c : Catalog) (h after : History) (rs : List Record) → Stand c h files.journal files.stores (disk files.rack)
+    → IsOnDisk files.journal c h (disk files.rack) → files.journal.staged ≡ map bytes_of rs → AreMadeBy c rs h after → ComeTo c.ops after files.stores → P c h after
+
+-- there are bodies where there are events
+pub some_bodies : (events : List Event) → events ≢ [] → bodies_of events ≢ []
+some_bodies [] some = absurd (some refl)
+some_bodies (e ∷ events) some = λ none. absurd cc
 
 staged_records : (events : List Event) → bodies_of events ≡ map bytes_of (map record_for events)
 staged_records [] = refl
@@ -105,41 +113,29 @@ length_events : (h : History) (events : List Event) → length (with_events h ev
 length_events h [] = omega arith
 length_events h (e ∷ events) = omega (arith, length_events (with_event h e) events, length-append h.events (e ∷ []))
 
-module _ {R B : Type 0} (e : EngineState R B) (disk : R → Disk) (events : List Event) (group : List (List Effect)) (law : GroupsComeTo B) (may : MayBeRecorded e (disk e.files.rack) events group) where
-  abbrev log : LogState
-  log = staging_all (unstaged e.files.journal) (bodies_of events)
-
+module _ {R B : Type 0} (e : EngineState R B) (disk : R → Disk) (events : List Event) (group : List (List Effect)) (may : MayBeRecorded e (disk e.files.rack) events group) where
   abbrev after : History
   after = with_events (full_history e.core) events
 
-  comes : ComeTo e.catalog.ops after e.files.stores
-  comes = let d = may.prepared.doubt in (law e.catalog.ops (full_history e.core) after group d.settled e.files.stores may.adds d.before d.became).0
+  -- the gate of what is staged may be opened,
+  pub may_open : Told (disk e.files.rack) → MayOpen e.files.journal (disk e.files.rack)
+  may_open told = record { bodies = journal_bodies e.catalog (full_history e.core); there = (may.prepared.there told).log }
 
-  stand : Told (disk e.files.rack) → Stand e.catalog (full_history e.core) log e.files.stores (disk e.files.rack)
-  stand told = stands_staged e.catalog (full_history e.core) e.files.journal (bodies_of events) e.files.stores (disk e.files.rack) (may.prepared.stand told)
-
-  -- the journal goes on with what is staged,
-  pub group_goes_on : Told (disk e.files.rack) → GoesOnStaged log (disk e.files.rack)
-  group_goes_on told = record {
-    catalog = e.catalog;
-    before = full_history e.core;
-    after = after;
-    stands = (stand told).journal;
-    records = map record_for events;
-    staged = staged_records events;
-    made = may.made;
-  }
+  comes : GroupsComeTo B → ComeTo e.catalog.ops after e.files.stores
+  comes law = let d = may.prepared.doubt in (law e.catalog.ops (full_history e.core) after group d.settled e.files.stores may.adds d.before d.became).0
 
   -- what is so of each history is so of the one with the events,
-  pub of_group : {P : Catalog → History → History → Type 0} → OfStaged disk (with_log e.files log) P → Told (disk e.files.rack) → P e.catalog (full_history e.core) after
-  of_group each told = each told e.catalog (full_history e.core) after (map record_for events) (stand told) (staged_records events) may.made comes
+  pub of_group : GroupsComeTo B → {P : Catalog → History → History → Type 0} → OfWritten disk e.files P → Told (disk e.files.rack) → P e.catalog (full_history e.core) after
+  of_group law each told =
+      each told e.catalog (full_history e.core) after (map record_for events) (may.prepared.stand told) (may.prepared.there told) (may.prepared.staged ∙ staged_records events) may.made (comes law)
 
   -- and once they are recorded the group is
-  pub group_recorded : (files : FilesState R B) → files.stores ≡ e.files.stores → files.journal ≡ with_staged log → (Told (disk files.rack) → Stand e.catalog after files.journal files.stores (disk files.rack))
+  pub group_recorded : (files : FilesState R B) → files.stores ≡ e.files.stores → files.journal ≡ with_staged e.files.journal → (Told (disk files.rack) → Stand e.catalog after files.journal files.stores (disk files.rack))
       → IsGroupRecorded (record { core = e.core; catalog = e.catalog; files = files; phase = e.phase }) (disk files.rack) group after
   group_recorded files same journal stands = record {
     phase = may.prepared.phase;
-    count = let was = may.prepared.count in omega (arith, ap (λ l. l.count) journal, was, length_bodies events, length_events (full_history e.core) events);
+    count = let was = may.prepared.count in
+        omega (arith, ap (λ l. l.count) journal, was, ap (λ (bs : List (List ℕ)). length bs) may.prepared.staged, length_bodies events, length_events (full_history e.core) events);
     adds = may.adds;
     doubt = subst (AreInDoubt e.catalog.ops (full_history e.core) group) (sym same) may.prepared.doubt;
     good = subst AreGoodBooks (sym same) may.prepared.good;

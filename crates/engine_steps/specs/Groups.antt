@@ -4,6 +4,7 @@ use Rattle.std.specs.Prelude.{OnErr}
 use Rattle.std.specs.List.{list_any}
 use Rattle.process_tree.specs.Order.{Each}
 use Rattle.process_disk.specs.Disk.{Disk, Told}
+use Rattle.process_disk.specs.Images.{OthersAsBefore}
 use Rattle.gate_log.specs.declared.errors.DiskFault.{DiskFault as DiskFailed}
 use Rattle.schedule_model.specs.declared.event.Event.{Event}
 use Rattle.schedule_model.specs.declared.event.Event.TheVariants.{Start, Act, End}
@@ -17,9 +18,10 @@ use Rattle.subsystem_store.specs.Opened.{Opened}
 use Rattle.store_group.specs.Events.{BecomeEach, IsPrepared, effects_for, has_any}
 use Rattle.process_journal.specs.Bodies.{with_event}
 use Rattle.process_journal.specs.Journals.{AreMadeBy}
+use Rattle.process_journal.specs.Staged.{IsOnDisk}
 use Rattle.history_files.specs.Groups.{AddsGroup}
 use Rattle.history_files.specs.Laws.{AreSettled}
-use Rattle.history_files.specs.Standing.{AreGoodBooks, Stand}
+use Rattle.history_files.specs.Standing.{AreGoodBooks, FilesState, Stand}
 use Rattle.engine_steps.specs.Engines.{AreAtRest, EngineState, full_history}
 use Rattle.engine_steps.specs.declared.engines.Phase.TheVariants as phase
 
@@ -40,6 +42,16 @@ IsNoStart (Start i) = ⊥
 IsNoStart (Act e) = ⊤
 IsNoStart (End i) = ⊤
 
+-- the bodies of the records of these events
+abbrev pub bodies_of : List Event → List (List ℕ)
+bodies_of events = map (λ e. bytes_of (record_for e)) events
+
+-- the events of a group: one at least, 16 at most, and no start
+pub record AreGroupEvents (events : List Event) : Type 0 where
+  pub acts_or_ends : Each IsNoStart events
+  pub some : events ≢ []
+  pub few : length events ≤ 16
+
 -- there is an effect at some place
 abbrev pub has_effect : List (List Effect) → Bool
 has_effect group = list_any has_any group
@@ -51,10 +63,15 @@ pub record AreInDoubt {B : Type 0} (ops : List Op) (h : History) (group : List (
     pub before : AreSettled ops h settled
     pub became : BecomeEach (λ q s t. IsPrepared (effects_for group q) s t) settled stores
 
--- A group is prepared: its effects are in doubt, and the files stand for the history, which lacks its events.
-pub record IsGroupPrepared {R B : Type 0} (e : EngineState R B) (disk : Disk) (group : List (List Effect)) : Type 0 where
+-- A group is prepared: its effects are in doubt, the records of its events are on the disk behind the closed gate of the journal, and
+-- the files stand for the history, which lacks its events.
+pub record IsGroupPrepared {R B : Type 0} (e : EngineState R B) (disk : Disk) (events : List Event) (group : List (List Effect))
+    : Type 0 where
   pub phase : e.phase ≡ phase.UnderWay
+  pub are : AreGroupEvents events
   pub count : e.files.journal.count ≡ length (full_history e.core).events + 1
+  pub staged : e.files.journal.staged ≡ bodies_of events
+  pub there : Told disk → IsOnDisk e.files.journal e.catalog (full_history e.core) disk
   pub doubt : AreInDoubt e.catalog.ops (full_history e.core) group e.files.stores
   pub good : AreGoodBooks e.files.stores
   pub stand : Told disk → Stand e.catalog (full_history e.core) e.files.journal e.files.stores disk
@@ -80,22 +97,17 @@ pub record LeavesCore {R B : Type 0} (old new : EngineState R B) (result : Resul
   pub catalog : new.catalog ≡ old.catalog
   pub closed : OnErr result (new.phase ≡ phase.Closed)
 
--- the bodies of the records of these events
-abbrev pub bodies_of : List Event → List (List ℕ)
-bodies_of events = map (λ e. bytes_of (record_for e)) events
-
 -- A prepared group may be recorded by its events: the journal may have the history with each, and they add its effects.
 pub record MayBeRecorded {R B : Type 0} (e : EngineState R B) (disk : Disk) (events : List Event) (group : List (List Effect))
     : Type 0 where
-  pub prepared : IsGroupPrepared e disk group
+  pub prepared : IsGroupPrepared e disk events group
   pub made : AreMadeBy e.catalog (map record_for events) (full_history e.core) (with_events (full_history e.core) events)
   pub adds : AddsGroup e.catalog.ops (full_history e.core) (with_events (full_history e.core) events) group
 
--- the events of a group: one at least, 16 at most, and no start
-pub record AreGroupEvents (events : List Event) : Type 0 where
-  pub acts_or_ends : Each IsNoStart events
-  pub some : events ≢ []
-  pub few : length events ≤ 16
+-- No file but the journal is touched, and the stores stay.
+pub record TouchesJournal {R B : Type 0} (disk : R → Disk) (old new : FilesState R B) : Type 0 where
+  pub stores : new.stores ≡ old.stores
+  pub others : Told (disk old.rack) → OthersAsBefore 0 (disk old.rack) (disk new.rack)
 
 -- the engine with nothing under way
 abbrev pub settled_as : {R B : Type 0} → EngineState R B → EngineState R B

@@ -1,10 +1,11 @@
 // Calls that touch no file.
-ghost use Rattle.std.specs.Prelude.{◌≡◌, ◌≢◌, OnOk, OnErr, IfOk, IfErr};
+ghost use Rattle.std.specs.Prelude.{◌≡◌, ◌≢◌, true, OnOk, OnErr, IfOk, IfErr};
 ghost use Rattle.process_tree.specs.declared.play.Outcome.TheVariants.{Refused};
 ghost use Rattle.machine_model.specs.Calls.{abort, aborted, admit, admitted, complete_all, finish, finished, next, next_is};
 ghost use Rattle.machine_model.specs.Replies.{refused};
 ghost use Rattle.process_core.specs.Answers.{after_call, answer_in};
 ghost use Rattle.process_core.specs.Handing.{admit_reply_of};
+ghost use Rattle.process_core.specs.Moments.{has_started_in, seat_in};
 ghost use Rattle.process_core.specs.Rotation.{next_reply_of};
 ghost use Rattle.engine_steps.specs.Engines.{IsClosed, with_core};
 ghost use Rattle.engine_steps.specs.Pieces.{IsStepOut};
@@ -15,6 +16,21 @@ use process_core::{Aborted, Admit, Next, Piece, Refusal};
 use process_disk::Rack;
 
 impl<R: Rack + Drop, B: Drop> Engine<R, B> {
+    /// What `admit` would answer for a process, with nothing handed out. A closed engine tells it too.
+    pub fn peek(&self, i: u32) -> Admit
+        ensures { admitted (admit_reply_of result) ≡ (answer_in self.now.core (admit i)).reply }
+    {
+        self.core.peek(i)
+    }
+
+    /// The number of the piece of a process that is out.
+    pub fn out(&self, i: u32) -> Option<u32>
+        requires { has_started_in self.now.core i ≡ true }
+        ensures { result ≡ (seat_in self.now.core i).out }
+    {
+        self.core.out(i)
+    }
+
     /// Hands out the next piece of a process, or says why not.
     pub fn admit(&mut self, i: u32) -> Result<Admit, Closed>
         ensures engine { OnOk result (self.new ≡ with_core self.old (after_call self.old.core (admit i))) }

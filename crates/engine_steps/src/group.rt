@@ -1,5 +1,5 @@
 // Several events take effect together: prepared, recorded, committed, and kept.
-ghost use Rattle.std.specs.Prelude.{◌≡◌, ◌≤◌, ◌<◌, ◌+◌, ◌*◌, ◌^◌, false, List, length, IsErr, OnOk};
+ghost use Rattle.std.specs.Prelude.{◌≡◌, ◌≢◌, ◌≤◌, ◌<◌, ◌+◌, ◌*◌, ◌^◌, [], false, List, length, IsErr, OnOk};
 ghost use Rattle.process_tree.specs.Order.{Each};
 ghost use Rattle.process_tree.specs.declared.play.Outcome.TheVariants.{Done};
 ghost use Rattle.process_disk.specs.Disk.{Told};
@@ -7,7 +7,9 @@ ghost use Rattle.process_disk.specs.Images.{EachImage};
 ghost use Rattle.process_disk.specs.Racks.{LeavesImages};
 ghost use Rattle.gate_log.specs.LogFile.{records_size};
 ghost use Rattle.gate_log.specs.Staging.{staging, staging_all};
+ghost use Rattle.schedule_model.specs.declared.event.Event.{Event};
 ghost use Rattle.schedule_model.specs.declared.history.History.{History};
+ghost use Rattle.commute_table.specs.declared.catalog.Catalog.{Catalog};
 ghost use Rattle.machine_model.specs.declared.replies.PieceState.TheVariants.{Out};
 ghost use Rattle.machine_model.specs.Advance.{event_of};
 ghost use Rattle.machine_model.specs.Calls.{finish, finished};
@@ -17,13 +19,14 @@ ghost use Rattle.process_core.specs.Answers.{after_call, answer_in};
 ghost use Rattle.process_core.specs.Cores.{IsHandedBy, courses_in, moment_of};
 ghost use Rattle.journal_records.specs.Bytes.{bytes_of};
 ghost use Rattle.subsystem_store.specs.declared.effect.Effect.{Effect};
-ghost use Rattle.store_group.specs.Events.{MayPrepareEach};
+ghost use Rattle.process_journal.specs.Staged.{IsOnDisk};
+ghost use Rattle.store_group.specs.Events.{BecomeEach, IsPrepared, MayPrepareEach, effects_for};
 ghost use Rattle.history_files.specs.Groups.{FitEach, HasNoDoubt, LacksEach};
 ghost use Rattle.history_files.specs.Sound.{IsSound, IsSoundForEither};
-ghost use Rattle.history_files.specs.Standing.{EachFits};
+ghost use Rattle.history_files.specs.Standing.{AreGoodBooks, EachFits, Stand, StandForSome};
 ghost use Rattle.engine_steps.specs.Engines.{AreAtRest, full_history, with_core};
 ghost use Rattle.engine_steps.specs.Groups.{AreGroupEvents, IsGroupCommitted, IsGroupPrepared, IsGroupRecorded, IsNoStart};
-ghost use Rattle.engine_steps.specs.Groups.{LeavesCore, MayBeRecorded, has_effect, settled_as};
+ghost use Rattle.engine_steps.specs.Groups.{LeavesCore, MayBeRecorded, TouchesJournal, has_effect, settled_as};
 ghost use Rattle.engine_steps.specs.Groups.{bodies_of, record_for, with_events};
 ghost use Rattle.engine_steps.specs.declared.engines.Phase.TheVariants as phase;
 
@@ -80,30 +83,62 @@ fn stage_each<R: Rack + Drop, B: Resource>(files: &mut Files<R, B>, events: &[Ev
     }
 }
 
+// Prepares effects and writes the staged records behind the closed gate of the journal; with no effect it writes the records alone.
+fn write_group<R: Rack + Drop, B: Resource>(
+    files: &mut Files<R, B>,
+    group: &[Effects],
+) -> Result<(), DiskFault>
+    requires staged { files.old.journal.staged ≢ [] }
+    requires fits { EachFits B.Resource files.old.stores }
+    requires may { MayPrepareEach group.now files.old.stores }
+    requires bytes { FitEach group.now }
+    requires stand { Told (R.disk files.old.rack) → StandForSome files.old.journal files.old.stores (R.disk files.old.rack) }
+    ensures acknowledged { Told (R.disk files.old.rack) → (c : Catalog) (h : History)
+        → Stand c h files.old.journal files.old.stores (R.disk files.old.rack) →
+        LacksEach c.ops h group.now → OnOk result (Stand c h files.new.journal files.new.stores (R.disk files.new.rack)) }
+    ensures on_disk { Told (R.disk files.old.rack) → (c : Catalog) (h : History)
+        → Stand c h files.old.journal files.old.stores (R.disk files.old.rack) →
+        OnOk result (IsOnDisk files.new.journal c h (R.disk files.new.rack)) }
+    ensures any_moment { Told (R.disk files.old.rack) → (c : Catalog) (h : History)
+        → Stand c h files.old.journal files.old.stores (R.disk files.old.rack) →
+        LacksEach c.ops h group.now → EachImage (R.disk files.new.rack) (R.disk files.old.rack).moment (IsSound c h) }
+    ensures fits { EachFits B.Resource files.new.stores }
+    ensures good { AreGoodBooks files.old.stores → AreGoodBooks files.new.stores }
+    ensures journal { files.new.journal ≡ files.old.journal }
+    ensures ok { OnOk result (BecomeEach (λ q s t. IsPrepared (effects_for group.now q) s t) files.old.stores files.new.stores) }
+    ensures none { has_effect group.now ≡ false → TouchesJournal R.disk files.old files.new }
+    ensures rack { LeavesImages R.Rack files.old.rack files.new.rack (IsErr result) }
+{
+    if !has_effect(group) {
+        return files.write_staged();
+    }
+    files.prepare_staged(group)
+}
+
 impl<R: Rack + Drop, B: Resource> Engine<R, B> {
-    /// Prepares effects, each in the store of its subsystem, with two syncs for all. A crash leaves files that are sound for the
-    /// history without them. With no effect it makes no call of the rack.
-    pub fn prepare_group(&mut self, group: &[Effects]) -> Result<(), DiskFault>
+    /// Prepares the effects of a group, each in the store of its subsystem, and writes the records of its events behind the closed
+    /// gate of the journal, with two syncs for all. A crash leaves files that are sound for the history without them. With no
+    /// effect it makes one sync, and touches no store.
+    pub fn prepare_group(&mut self, group: &[Effects], events: &[Event]) -> Result<(), DiskFault>
         requires fits { EachFits B.Resource self.old.files.stores }
         requires settled { self.old.phase ≡ phase.Settled }
+        requires events { AreGroupEvents events.now }
         requires may { MayPrepareEach group.now self.old.files.stores }
         requires bytes { FitEach group.now }
         requires lacks { LacksEach self.old.catalog.ops (full_history self.old.core) group.now }
         ensures step { LeavesCore self.old self.new result }
-        ensures prepared { OnOk result (IsGroupPrepared self.new (R.disk self.new.files.rack) group.now) }
+        ensures prepared { OnOk result (IsGroupPrepared self.new (R.disk self.new.files.rack) events.now group.now) }
         ensures any_moment { Told (R.disk self.old.files.rack)
             → EachImage (R.disk self.new.files.rack) (R.disk self.old.files.rack).moment
             (IsSound self.old.catalog (full_history self.old.core)) }
-        ensures none { has_effect group.now ≡ false → self.new.files ≡ self.old.files }
+        ensures none { has_effect group.now ≡ false → TouchesJournal R.disk self.old.files self.new.files }
         ensures fits { EachFits B.Resource self.new.files.stores }
         ensures rack { LeavesImages R.Rack self.old.files.rack self.new.files.rack (IsErr result) }
     {
-        self.files.soundness_holds();
-        if !has_effect(group) {
-            self.phase = Phase::UnderWay;
-            return Ok(());
-        }
-        match self.files.prepare_staged(group) {
+        self.core.run_holds();
+        self.files.unstage_records();
+        stage_each(&mut self.files, events);
+        match write_group(&mut self.files, group) {
             Ok(()) => {
                 self.phase = Phase::UnderWay;
                 Ok(())
@@ -115,27 +150,26 @@ impl<R: Rack + Drop, B: Resource> Engine<R, B> {
         }
     }
 
-    /// Adds the records of the events of a prepared group to the journal. A crash leaves files that are sound for the history
-    /// without them or with all of them.
-    pub fn record_group(&mut self, events: &[Event]) -> Result<(), DiskFault>
+    /// Opens the gate of the records of a prepared group, with one sync: now its events have happened. A crash leaves files that are
+    /// sound for the history without them or with all of them.
+    pub fn record_group(&mut self) -> Result<(), DiskFault>
         requires fits { EachFits B.Resource self.old.files.stores }
-        requires may { (group : List (List Effect)) × MayBeRecorded self.old (R.disk self.old.files.rack) events.now group }
-        requires events { AreGroupEvents events.now }
+        requires may { (events : List Event) × (group : List (List Effect))
+            × MayBeRecorded self.old (R.disk self.old.files.rack) events group }
         ensures step { LeavesCore self.old self.new result }
-        ensures recorded { (group : List (List Effect)) → MayBeRecorded self.old (R.disk self.old.files.rack) events.now group →
+        ensures recorded { (events : List Event) (group : List (List Effect))
+            → MayBeRecorded self.old (R.disk self.old.files.rack) events group →
             OnOk result (IsGroupRecorded self.new (R.disk self.new.files.rack) group
-            (with_events (full_history self.old.core) events.now)) }
-        ensures any_moment { Told (R.disk self.old.files.rack)
+            (with_events (full_history self.old.core) events)) }
+        ensures any_moment { Told (R.disk self.old.files.rack) → (events : List Event) (group : List (List Effect))
+            → MayBeRecorded self.old (R.disk self.old.files.rack) events group
             → EachImage (R.disk self.new.files.rack) (R.disk self.old.files.rack).moment
-            (IsSoundForEither self.old.catalog (full_history self.old.core) (with_events (full_history self.old.core) events.now)) }
+            (IsSoundForEither self.old.catalog (full_history self.old.core) (with_events (full_history self.old.core) events)) }
         ensures fits { EachFits B.Resource self.new.files.stores }
         ensures rack { LeavesImages R.Rack self.old.files.rack self.new.files.rack (IsErr result) }
     {
         books_come_to_groups::<B>();
-        self.core.run_holds();
-        self.files.unstage_records();
-        stage_each(&mut self.files, events);
-        match self.files.record_staged() {
+        match self.files.record_written() {
             Ok(()) => Ok(()),
             Err(fault) => {
                 self.phase = Phase::Closed;

@@ -32,10 +32,9 @@ pub struct Row {
     pub size: usize,
 }
 
-// The device calls of three steps and two ends: each of three stores is written, a sync, their gates, a sync; and the other way
-// round behind the record.
-const GROUP: [Left; 20] = [
-    Left::Before,
+// The device calls of three steps and two ends: each of three stores and the journal are written, a sync, the gates of the stores, a
+// sync, the journal's gate, a sync; and the commits in the same way as the effects.
+const GROUP: [Left; 19] = [
     Left::Before,
     Left::Before,
     Left::Before,

@@ -40,9 +40,8 @@ pub struct Around {
 /// The device calls of a record: its bytes, a sync, its gate, a sync.
 pub const RECORD: [Left; 4] = [Left::Before, Left::Before, Left::ByGate, Left::ByGate];
 
-/// Those of a step or an undo, which is prepared, recorded and committed.
-pub const ACT: [Left; 12] = [
-    Left::Before,
+/// Those of a step or an undo: its bytes and those of its record, a sync, its gate, a sync, the record's gate, a sync; and its commit.
+pub const ACT: [Left; 11] = [
     Left::Before,
     Left::Before,
     Left::Before,

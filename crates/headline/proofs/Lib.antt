@@ -12,3 +12,4 @@ pub mod Whole
 pub mod Chained
 pub mod Stops
 pub mod AnswersKept
+pub mod PrintedKept

@@ -4,12 +4,14 @@
 //! restart follows it, and what the restart makes of that. `stops_are_restored` proves it of any calls that were answered as
 //! `process_top` says, over any sources, sinks, racks, boxes and gates. `specs/Chains` says it of any number of calls in one folder,
 //! one after another, and `nothing_is_lost` proves that. `specs/Answered` says of the answers of a dialogue what a driver may rely on, and
-//! `answers_are_kept` proves it. Nothing here runs.
+//! `answers_are_kept` proves it. `specs/Printed` says the same of what `run` and `session` print at their end, and `printed_is_kept`
+//! proves it. Nothing here runs.
 #![tactic(auto)]
 
 ghost use Rattle.headline.specs.Answered.{AnswersAreKept};
 ghost use Rattle.headline.specs.Chains.{ChainsLoseNothing};
 ghost use Rattle.headline.specs.Headline.{Headline, StopsAreRestored};
+ghost use Rattle.headline.specs.Printed.{PrintedIsKept};
 
 use history_opening::sound_files_are_opened;
 use process_disk::Rack;
@@ -45,4 +47,10 @@ pub fn nothing_is_lost<S: Source, K: Sink, R: Rack + Drop, B: Resource, G: Gate>
 /// begins with all that the machine had come to by then.
 pub fn answers_are_kept<S: Source, K: Sink, R: Rack + Drop, B: Resource, G: Gate>()
     ensures { AnswersAreKept S.Source K.Sink R.Rack B.Resource G.Gate }
+{}
+
+/// Whatever `run` and `session` printed at their end is there for the next call: the files that it finds read as those of the history
+/// that was told.
+pub fn printed_is_kept<S: Source, K: Sink, R: Rack + Drop, B: Resource, G: Gate>()
+    ensures { PrintedIsKept S.Source K.Sink R.Rack B.Resource G.Gate }
 {}

@@ -7,6 +7,7 @@ pub mod OneRecord
 pub mod Counting
 pub mod EndedDoubts
 pub mod Answered
+pub mod PreparedGroups
 pub mod Preparing
 pub mod GoodBooks
 pub mod NoDoubt
@@ -22,6 +23,8 @@ pub mod FewEffects
 pub mod Undoables
 pub mod StandingSteps
 pub mod MayBePrepared
+pub mod NextGroups
 pub mod BoxKinds
 pub mod Groups
 pub mod GroupBooks
+pub mod WrittenGroups

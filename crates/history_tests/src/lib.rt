@@ -7,6 +7,8 @@
 #[cfg(test)]
 mod damages;
 #[cfg(test)]
+mod entries;
+#[cfg(test)]
 mod events;
 #[cfg(test)]
 mod journals;

@@ -1,5 +1,5 @@
 -- What is taken of a source, line by line.
-use Rattle.std.specs.Prelude.{◌≡◌, ◌≤◌, ◌<◌, ◌+◌, ◌-◌, ℕ, Bool, true, false, List, [], ◌++◌, length, take, Option, Some, None, ⊤}
+use Rattle.std.specs.Prelude.{◌≡◌, ◌⊎◌, ◌≤◌, ◌<◌, ◌+◌, ◌-◌, ℕ, Bool, true, false, List, [], ◌++◌, length, take, Option, Some, None, ⊤}
 use Rattle.std.specs.Io.KnownBytes.{Consumes, IsAtEnd}
 use Rattle.trace_verify.specs.Lines.{cut}
 use Rattle.line_reader.specs.declared.taken.Taken.{Taken}
@@ -28,7 +28,19 @@ IsEndOf after LongLine = ⊤
 IsEndOf after (End rest) = IsAtEnd after
 IsEndOf after LongEnd = IsAtEnd after
 
+-- how many bytes a source is asked for at once
+abbrev pub most_ahead : ℕ
+most_ahead = 4096
+
+-- Behind bytes that stood ready the source gave none; or these, of which the last came by a read that was made while no line stood
+-- ready.
+abbrev pub IsReadAsNeeded : List ℕ → List ℕ → Type 0
+IsReadAsNeeded ready given =
+    (given ≡ [])
+    ⊎ ((earlier last : List ℕ) × (given ≡ earlier ++ last) × (cut 10 (ready ++ earlier) ≡ None) × (length last ≤ most_ahead))
+
 -- Behind bytes that stood ready the source gave more, and of both this was taken.
 abbrev pub IsTaken : ℕ → List ℕ → List ℕ → Option (List ℕ) → Option (List ℕ) → Taken → Type 0
 IsTaken most ready left before after taken =
     (given : List ℕ) × Consumes before after given × IsFirstOf most (ready ++ given) left taken × IsEndOf after taken
+    × IsReadAsNeeded ready given

@@ -1,10 +1,10 @@
 // Lines of a source.
 ghost use Rattle.std.specs.Prelude.{◌≡◌, ◌≢◌, ◌≤◌, ◌+◌, ◌-◌, ℕ, List, [], ◌++◌, length, take, false, Option, Some, None, IfOk};
-ghost use Rattle.std.specs.Prelude.{IfErr, OnOk, IsErrOf};
+ghost use Rattle.std.specs.Prelude.{IfErr, OnErr, OnOk, IsErrOf};
 ghost use Rattle.process_flow.specs.Causes.{Rose};
 ghost use Rattle.std.specs.Io.KnownBytes.{Consumes, IsAtEnd};
 ghost use Rattle.trace_verify.specs.Lines.{cut};
-ghost use Rattle.line_reader.specs.Taking.{IsEndOf, IsFirstOf, IsFrontTaken, IsTaken};
+ghost use Rattle.line_reader.specs.Taking.{IsEndOf, IsFirstOf, IsFrontTaken, IsReadAsNeeded, IsTaken, most_ahead};
 
 use crate::{TakeError, Taken};
 use process_flow::{Failed, Source};
@@ -24,12 +24,13 @@ pub struct LineReader {
 
 impl Model for LineReader {
     ghost use Rattle.std.specs.Prelude.{◌≤◌, List, ℕ, length, drop};
+    ghost use Rattle.line_reader.specs.Taking.{most_ahead};
 
     ghost Value = { List ℕ };
 
     ghost view = { λ r. drop r.at r.bytes.items };
 
-    ghost invariant = { λ r. r.at ≤ length r.bytes.items };
+    ghost invariant = { λ r. (r.at ≤ length r.bytes.items) × (length r.bytes.items ≤ most_ahead) };
 }
 
 // Adds bytes to a line, as far as no more than this one byte more is kept.
@@ -79,7 +80,8 @@ impl LineReader {
 
     // Takes what stands before the first line feed, with it; or all where there is none. Whether there was one.
     fn take_front(&mut self, line: &mut Vec<u8>, most: u32) -> Result<bool, AllocError>
-        ensures { IfOk result (IsFrontTaken most self.old self.new line.old.items line.new.items) }
+        ensures taken { IfOk result (IsFrontTaken most self.old self.new line.old.items line.new.items) }
+        ensures same { OnErr result (self.new ≡ self.old) }
     {
         let pending = &self.bytes[self.at..];
         match cut(pending, b'\n') {
@@ -102,7 +104,8 @@ impl LineReader {
         ensures more { IfOk result (λ _. Consumes (S.left source.old) (S.left source.new) self.new) }
         ensures end { IfOk result (λ more. more ≡ false → (self.new ≡ []) × IsAtEnd (S.left source.new)) }
         ensures gave { IfErr result (λ e. (given : List ℕ) × Consumes (S.left source.old) (S.left source.new) given
-            × (e ≡ TakeError.ReadFault → given ≡ [])) }
+            × (e ≡ TakeError.ReadFault → given ≡ []) × (length given ≤ most_ahead)) }
+        ensures ahead { length self.new ≤ most_ahead }
         ensures fault { IsErrOf result TakeError.ReadFault → Rose (S.faults source.old) (S.faults source.new) }
         ensures later { S.faults source.old ≤ S.faults source.new }
         ensures quiet { OnOk result (S.faults source.new ≡ S.faults source.old) }
@@ -118,6 +121,13 @@ impl LineReader {
         Ok(count > 0)
     }
 
+    /// No more stands ready than a source is asked for at once.
+    pub fn invariant_holds(&self)
+        ensures { length self.now ≤ most_ahead }
+    {
+        let _ = &self.bytes;
+    }
+
     /// Takes the next line of the source, or all of it that stands behind its last line feed. Of a line that has more bytes than
     /// `most` nothing is kept.
     pub fn take_line<S: Source>(
@@ -129,7 +139,9 @@ impl LineReader {
         ensures taken { IfOk result (IsTaken most self.old self.new (S.left source.old) (S.left source.new)) }
         // Where a call of the source failed, no line was there.
         ensures gave { IfErr result (λ e. (given : List ℕ) × Consumes (S.left source.old) (S.left source.new) given
-            × (e ≡ TakeError.ReadFault → cut 10 (self.old ++ given) ≡ None)) }
+            × (e ≡ TakeError.ReadFault → cut 10 (self.old ++ given) ≡ None) × IsReadAsNeeded self.old given) }
+        // No more stands ready than the source is asked for at once.
+        ensures ahead { length self.new ≤ most_ahead }
         // A line that is there is taken without a call of the source.
         ensures at_once { cut 10 self.old ≢ None → source.new ≡ source.old }
         ensures fault { IsErrOf result TakeError.ReadFault → Rose (S.faults source.old) (S.faults source.new) }
@@ -137,6 +149,7 @@ impl LineReader {
         // No failed call is passed over.
         ensures quiet { OnOk result (S.faults source.new ≡ S.faults source.old) }
     {
+        self.invariant_holds();
         let mut line = Vec::new(alloc);
         for _ in 0..u64::MAX {
             if self.take_front(&mut line, most)? {

@@ -192,6 +192,21 @@ impl Core {
         });
     }
 
+    /// What `admit` would answer for a process, with nothing handed out.
+    pub fn peek(&self, i: u32) -> Admit
+        ensures { admitted (admit_reply_of result) ≡ (answer_in self.now (admit i)).reply }
+    {
+        self.reply_of(i)
+    }
+
+    /// The number of the piece of a process that is out.
+    pub fn out(&self, i: u32) -> Option<u32>
+        requires { has_started_in self.now i ≡ true }
+        ensures { result ≡ (seat_in self.now i).out }
+    {
+        self.seat(i)?.out
+    }
+
     /// Hands out the next piece of a process, or says why not.
     pub fn admit(&mut self, i: u32) -> Admit
         ensures core { self.new ≡ after_call self.old (admit i) }

@@ -74,7 +74,7 @@ group_meets acts_add ends_add may_be law e disk core under rest stores ps is gro
 
 -- a prepared group may be recorded
 pub recordable : {R B : Type 0} (old new : EngineState R B) (disk : Disk) (events : List Event) (group : List (List Effect)) → MeetsEach old events group → new.core ≡ old.core → new.catalog ≡ old.catalog
-    → IsGroupPrepared new disk group → MayBeRecorded new disk events group
+    → IsGroupPrepared new disk events group → MayBeRecorded new disk events group
 recordable old new disk events group meets core catalog prepared = record {
   prepared = prepared;
   made = subst (λ k. AreMadeBy new.catalog (map record_for events) (full_history k) (with_events (full_history k) events)) (sym core)

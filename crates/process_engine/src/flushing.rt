@@ -105,8 +105,8 @@ pub(crate) fn put_group<R: Rack + Drop, B: Resource>(
     engine.stores_hold();
     let group = group_of(engine, events);
     effects_fit(&group);
-    engine.prepare_group(&group)?;
-    engine.record_group(events)?;
+    engine.prepare_group(&group, events)?;
+    engine.record_group()?;
     engine.commit_group()
 }
 

@@ -24,6 +24,6 @@ pub use conflicts::form_of;
 pub use ends::put_end;
 pub use events::{act_word, put_entries};
 pub use laws::printed_reports_are_accepted;
-pub use lines::{put_four, put_line};
+pub use lines::{put_four, put_line, put_words};
 pub use names::{op_name, process_name, step_name};
 pub use printing::{report, report_of};

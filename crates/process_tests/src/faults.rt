@@ -16,7 +16,7 @@ fn a_fault_ends_a_session(rt: HostRuntime) {
     let answers = b"started 1 a\npiece 1: do 1.x\n";
     let rack = expect_on(&rt, alloc, &["session"], &lines, rack, 0, answers);
     let before = must(&rt, u32::try_from(rack.calls()));
-    let rack = must(&rt, empty(alloc, &[before.wrapping_add(3)]));
+    let rack = must(&rt, empty(alloc, &[before.wrapping_add(4)]));
     let rack = expect_on(&rt, alloc, &["init"], &input, rack, 0, b"created\n");
     let lines = must(
         &rt,

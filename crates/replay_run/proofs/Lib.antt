@@ -1,6 +1,6 @@
-mod SortedPairs
-mod UsedKeys
-mod PrintedValues
+pub mod SortedPairs
+pub mod UsedKeys
+pub mod PrintedValues
 pub mod SoundCatalogs
 mod FirstActive
 mod PrintedText

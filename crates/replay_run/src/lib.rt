@@ -12,4 +12,5 @@ mod printing;
 mod soundness;
 
 pub use command::replay;
+pub use printing::put_box;
 pub use soundness::sound_catalog;

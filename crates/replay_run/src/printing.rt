@@ -157,8 +157,8 @@ fn put_unless_zero(
     put_value(alloc, q, key, value, out)
 }
 
-// Writes the lines of the values of a box at these keys.
-fn put_box<B: Resource>(
+/// Writes the lines of the values of a box at these keys.
+pub fn put_box<B: Resource>(
     alloc: Global,
     q: usize,
     resource: &B,

@@ -30,7 +30,7 @@ fn calls_before<H: Abort + Threads + Wait + Sync>(rt: &H, alloc: Global) -> u32 
 
 // The rack behind a session of which the last sync of a piece's prepare fails.
 fn faulty<H: Abort + Threads + Wait + Sync>(rt: &H, alloc: Global) -> MemoryRack {
-    let fails = [calls_before(rt, alloc).wrapping_add(3)];
+    let fails = [calls_before(rt, alloc).wrapping_add(4)];
     let lines = must(
         rt,
         scenario(

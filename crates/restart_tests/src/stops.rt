@@ -67,7 +67,7 @@ const LACKED: Case = Case {
     stop: Some(Stop {
         line: b"finish 1 done\n",
         answer: b"effected 2\n",
-        call: 4,
+        call: 5,
         fill: 0x00,
     }),
     head: b"conflicts\nadd take\ntake take\nnote note\nbook book\n\
@@ -84,7 +84,7 @@ const KEPT: Case = Case {
     stop: Some(Stop {
         line: b"finish 1 done\n",
         answer: b"effected 2\n",
-        call: 6,
+        call: 5,
         fill: 0x07,
     }),
     head: b"conflicts\nadd take\ntake take\nnote note\nbook book\n\

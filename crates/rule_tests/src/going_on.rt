@@ -100,3 +100,13 @@ fn the_refusal_of_the_only_step_rolls_back(rt: HostRuntime) {
     assert_eq!(rt; process.todo(), Todo::End);
     assert_eq!(rt; process.recovery(), Recovery::Backward);
 }
+
+#[test]
+fn a_process_that_did_nothing_before_an_opening_is_as_one_that_starts(rt: HostRuntime) {
+    let alloc = rt.alloc();
+    let plan = three_ways(&rt, alloc);
+    let process = must(&rt, Instance::replay(alloc, &plan, &[]));
+    assert_eq!(rt; process.todo(), Todo::Forward(0));
+    assert_eq!(rt; process.tried(), 0);
+    assert_eq!(rt; process.pending(), 0);
+}

@@ -1,5 +1,5 @@
 -- What lines with their answers come to, one after another.
-use Rattle.std.proofs.Common.{◌≡◌, ◌≤◌, ◌∙◌, ℕ, List, [], ◌∷◌, ◌++◌, Some, refl, ap, sym, subst, append-nil, append_assoc, arith}
+use Rattle.std.proofs.Common.{◌≡◌, ◌≤◌, ◌∙◌, ℕ, List, [], ◌∷◌, ◌++◌, length, Some, refl, ap, sym, subst, append-nil, append_assoc, arith}
 use Rattle.std.specs.Io.KnownBytes.{Appends, Consumes}
 use Rattle.std.proofs.KnownBytes.{Appends-nil, Appends-trans, Consumes-nil, Consumes-trans}
 use Rattle.process_flow.specs.declared.source.Source.{Ghosts as Sources}
@@ -8,8 +8,9 @@ use Rattle.process_disk.specs.declared.rack.Rack.{Ghosts as Racks}
 use Rattle.process_disk.specs.Disk.{IsHonest, Told}
 use Rattle.process_tree.specs.declared.plan.Plan.{Plan}
 use Rattle.trace_verify.specs.Lines.{cut}
+use Rattle.line_reader.specs.Taking.{most_ahead}
 use Rattle.line_reader.proofs.Cuts.{cut-whole}
-use Rattle.serve_run.specs.Dialogue.{AreAnswered, AreExchanged, DialogueState, Exchange, IsExchange, bytes_of, driver_state, next_number, number_behind, printed_of}
+use Rattle.serve_run.specs.Dialogue.{AreAnswered, AreExchanged, AreReadInTurn, DialogueState, Exchange, IsExchange, bytes_of, driver_state, next_number, number_behind, printed_of}
 
 -- a line stands in front of the lines behind it
 line_behind : (ready given line rest more bytes left : List ℕ) → cut 10 (ready ++ given) ≡ Some (line, rest) → rest ++ more ≡ bytes ++ left → ready ++ (given ++ more) ≡ ((line ++ 10 ∷ []) ++ bytes) ++ left
@@ -55,6 +56,21 @@ module _ {S K R B : Type 0} (s : Sources S) (k : Sinks K) (r : Racks R) (honest 
         one.given ++ rest.0,
         Consumes-trans (s.left a.source) (s.left m.source) (s.left b.source) one.given rest.0 one.consumed rest.1,
         line_behind a.ready one.given x.line m.ready rest.0 (bytes_of xs) b.ready one.line rest.2,
+      )
+
+  -- nothing was read ahead of a line that stood ready
+  pub read_in_turn : (a b : DialogueState S K R B) (xs : List Exchange) (is : AreExchanged s k r plans a xs b) (more : List ℕ) → AreReadInTurn a.ready ((lines_taken a b xs is).0 ++ more) xs
+  unfolding lines_taken
+  read_in_turn a b [] is more = tt
+  read_in_turn a b (x ∷ xs) (m, one, behind) more =
+      let rest = lines_taken m b xs behind in (
+        one.given,
+        rest.0 ++ more,
+        append_assoc one.given rest.0 more,
+        one.needed,
+        one.line ∙ ap (λ bs. Some (x.line, bs)) (sym one.ahead),
+        subst (λ bs. length bs ≤ most_ahead) (sym one.ahead) one.little,
+        subst (λ bs. AreReadInTurn bs (rest.0 ++ more) xs) (sym one.ahead) (read_in_turn m b xs behind more),
       )
 
   -- their answers were given

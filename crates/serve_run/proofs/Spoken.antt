@@ -1,5 +1,5 @@
 -- A dialogue behind its first lines: what is printed of it, and that it is told.
-use Rattle.std.proofs.Common.{◌≡◌, ◌∙◌, ◌≤◌, ℕ, List, [], ◌++◌, inl, inr, refl, ap, sym, subst, append_assoc, arith}
+use Rattle.std.proofs.Common.{◌≡◌, ◌∙◌, ◌≤◌, ℕ, List, [], ◌++◌, length, inl, inr, refl, ap, sym, subst, append_assoc, arith}
 use Rattle.std.specs.Io.KnownBytes.{Appends, Consumes}
 use Rattle.std.proofs.KnownBytes.{Appends-nil, Appends-trans, Consumes-nil, Consumes-trans}
 use Rattle.process_flow.specs.Causes.{Rose}
@@ -22,18 +22,19 @@ use Rattle.command_refusals.specs.declared.status.Status.TheVariants.{WriteFault
 use Rattle.command_input.specs.Outputs.{output, IsTold}
 use Rattle.history_opening.proofs.Rising.{rose_later}
 use Rattle.driver_requests.specs.Readiness.{ready_text}
+use Rattle.line_reader.specs.Taking.{most_ahead}
 use Rattle.serve_run.specs.Dialogue.{Dialogue, DialogueState, EndsWith, HasConversed, IsAskedBy, IsBetween, IsDialogue, IsDialogueTold, bytes_of, driver_state, printed_of}
 use Rattle.serve_run.specs.Serve.{IsHeld, begun_on, unspoken}
 use Rattle.serve_run.proofs.Turns.{write_isnt_disk, write_isnt_read}
-use Rattle.serve_run.proofs.Exchanges.{are_answered, answers_given, lines_taken, no_fewer_faults, no_read_fault, no_write_fault, numbered, same_catalog}
+use Rattle.serve_run.proofs.Exchanges.{are_answered, answers_given, lines_taken, no_fewer_faults, no_read_fault, no_write_fault, numbered, read_in_turn, same_catalog}
 use Rattle.serve_run.proofs.Tied.{go_tied, GoTied}
 
 module _ {S K R B : Type 0} (s : Sources S) (k : Sinks K) (r : Racks R) (honest : (rack : R) → Told (r.disk rack) → IsHonest (r.disk rack)) (plans : List Plan) where
-  module _ (a b : DialogueState S K R B) (ended : Status) (at : IsBetween r a.engine) (is : IsDialogue s k r plans a b ended) where
+  module _ (a b : DialogueState S K R B) (ended : Status) (at : IsBetween r a.engine) (little : length a.ready ≤ most_ahead) (is : IsDialogue s k r plans a b ended) where
     abbrev mid : DialogueState S K R B
     mid = is.last
 
-    taken : (given : List ℕ) × Consumes (s.left a.source) (s.left mid.source) given × (a.ready ++ given ≡ bytes_of is.exchanges ++ mid.ready)
+    abbrev taken : (given : List ℕ) × Consumes (s.left a.source) (s.left mid.source) given × (a.ready ++ given ≡ bytes_of is.exchanges ++ mid.ready)
     taken = lines_taken s k r honest plans a mid is.exchanges is.exchanged
 
     abbrev given : List ℕ
@@ -59,6 +60,13 @@ module _ {S K R B : Type 0} (s : Sources S) (k : Sinks K) (r : Racks R) (honest 
       answered = are_answered s k r honest plans a mid is.exchanges is.exchanged;
       rest = mid.ready ++ is.over.given;
       lines = bytes_are;
+      turns = record {
+        ready = a.ready;
+        given = given;
+        bytes = refl;
+        little = little;
+        turns = read_in_turn s k r honest plans a mid is.exchanges is.exchanged is.over.given;
+      };
       stops = is.over.stops;
       unread = is.over.unread;
       line = is.over.line;

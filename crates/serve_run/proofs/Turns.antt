@@ -9,6 +9,7 @@ use Rattle.process_tree.specs.Order.{Each}
 use Rattle.process_tree.specs.declared.plan.Plan.{Plan}
 use Rattle.process_text.specs.Canonical.{line_of}
 use Rattle.trace_verify.specs.Lines.{cut}
+use Rattle.line_reader.specs.Taking.{IsReadAsNeeded, most_ahead}
 use Rattle.session_play.specs.AtHand.{Hand}
 use Rattle.process_core.specs.Cores.{CoreState}
 use Rattle.engine_steps.specs.Engines.{EngineState}
@@ -87,7 +88,7 @@ want_isnt_disk_cut : cuts.NoMemory ≢ cuts.DiskFault
 want_isnt_disk_cut is = absurd (cc)
 
 module _ {S K R B : Type 0} (s : Sources S) (k : Sinks K) (r : Racks R) (plans : List Plan) (source source' : S) (ready rest : List ℕ) (sink sink' : K) (e e' : EngineState R B) (ps ps' : Hand) (n : ℕ) (given : List ℕ)
-    (consumed : Consumes (s.left source) (s.left source') given) where
+    (consumed : Consumes (s.left source) (s.left source') given) (needed : IsReadAsNeeded ready given) where
   abbrev a : DialogueState S K R B
   a = state_at source ready sink e ps n
 
@@ -95,17 +96,20 @@ module _ {S K R B : Type 0} (s : Sources S) (k : Sinks K) (r : Racks R) (plans :
   b m = state_at source' rest sink' e' ps' m
 
   -- a line was taken and answered, and its answer was given
-  pub exchanged : (result : Option Status) (line : List ℕ) → cut 10 (ready ++ given) ≡ Some (line, rest) → s.faults source' ≡ s.faults source → IfNone result (GoesOn r [] e e')
+  pub exchanged : (result : Option Status) (line : List ℕ) → cut 10 (ready ++ given) ≡ Some (line, rest) → length rest ≤ most_ahead → s.faults source' ≡ s.faults source → IfNone result (GoesOn r [] e e')
       → IfNone result (IsBetween r e')
       → IfNone result ((text : List ℕ) × IsAnswered e.catalog plans (driver_state a) n line (driver_state (b n)) text × Appends (k.taken sink) (k.taken sink') text × (k.faults sink' ≡ k.faults sink))
       → IfNone result ((x : Exchange) × IsExchange s k r plans x a (b (next_number n)))
-  exchanged (Some status) line is quiet goes at on = tt
-  exchanged None line is quiet goes at (text, answered, told, whole) = (
-    record { line = line; answer = text; state = driver_state (b n); moment = (r.disk e'.files.rack).moment },
+  exchanged (Some status) line is few quiet goes at on = tt
+  exchanged None line is few quiet goes at (text, answered, told, whole) = (
+    record { line = line; ahead = rest; answer = text; state = driver_state (b n); moment = (r.disk e'.files.rack).moment },
     record {
       given = given;
       consumed = consumed;
       line = is;
+      needed = needed;
+      ahead = refl;
+      little = few;
       answered = answered;
       state = refl;
       goes = goes;
@@ -136,6 +140,7 @@ module _ {S K R B : Type 0} (s : Sources S) (k : Sinks K) (r : Racks R) (plans :
     cut = is.cut;
     stops = λ done. absurd (is.not_stopped done);
     unread = λ failed. absurd (is.not_unread failed);
+    needed = needed;
     read = λ failed. absurd (is.not_unread failed);
     later = later;
   }
@@ -176,9 +181,9 @@ module _ {S K R B : Type 0} (s : Sources S) (k : Sinks K) (r : Racks R) (plans :
 
   -- no line was taken, for a fault of the source or for want of memory
   pub over_by_fault : (fault : Fault) (ended : Status) (given : List ℕ) → Consumes (s.left source) (s.left source') given → (fault ≡ faults.ReadFault → cut 10 (ready ++ given) ≡ None)
-      → s.faults source ≤ s.faults source' → ((fault ≡ faults.ReadFault) × Rose (s.faults source) (s.faults source')) ⊎ (fault ≡ faults.NoMemory) → IsTold (status_of fault) (fault_line fault) (output k sink) (output k sink') ended
+      → IsReadAsNeeded ready given → s.faults source ≤ s.faults source' → ((fault ≡ faults.ReadFault) × Rose (s.faults source) (s.faults source')) ⊎ (fault ≡ faults.NoMemory) → IsTold (status_of fault) (fault_line fault) (output k sink) (output k sink') ended
       → IsOver s k r plans (state_at source ready sink e ps n) (state_at source' rest sink' e ps n) ended
-  over_by_fault fault ended given consumed none later (inl (is, rose)) told = record {
+  over_by_fault fault ended given consumed none needed later (inl (is, rose)) told = record {
     given = given;
     consumed = consumed;
     unanswered = None;
@@ -186,10 +191,11 @@ module _ {S K R B : Type 0} (s : Sources S) (k : Sinks K) (r : Racks R) (plans :
     cut = faulty faults.ReadFault ended read_fault_isnt_disk_fault (subst (λ f. IsTold (status_of f) (fault_line f) (output k sink) (output k sink') ended) is told);
     stops = λ done. absurd (read_isnt_done done);
     unread = λ failed. none is;
+    needed = needed;
     read = λ failed. rose;
     later = later;
   }
-  over_by_fault fault ended given consumed none later (inr is) told = record {
+  over_by_fault fault ended given consumed none needed later (inr is) told = record {
     given = given;
     consumed = consumed;
     unanswered = None;
@@ -197,6 +203,7 @@ module _ {S K R B : Type 0} (s : Sources S) (k : Sinks K) (r : Racks R) (plans :
     cut = faulty faults.NoMemory ended want_isnt_disk_fault (subst (λ f. IsTold (status_of f) (fault_line f) (output k sink) (output k sink') ended) is told);
     stops = λ done. absurd (memory_isnt_done done);
     unread = λ failed. absurd (memory_isnt_read failed);
+    needed = needed;
     read = λ failed. absurd (memory_isnt_read failed);
     later = later;
   }
@@ -241,9 +248,9 @@ module _ {S K R B : Type 0} (s : Sources S) (k : Sinks K) (r : Racks R) (plans :
   goes_still None = own
 
   -- it ended by `stop`, or with its input
-  pub over_by_stop : (given : List ℕ) → Consumes (s.left source) (s.left source') given → s.faults source ≤ s.faults source' → IsStop (ready ++ given) (s.left source')
+  pub over_by_stop : (given : List ℕ) → Consumes (s.left source) (s.left source') given → IsReadAsNeeded ready given → s.faults source ≤ s.faults source' → IsStop (ready ++ given) (s.left source')
       → Appends (k.taken sink) (k.taken sink) [] → IsOver s k r plans (state_at source ready sink e ps n) (state_at source' rest sink e ps n) Done
-  over_by_stop given consumed later stop nothing = record {
+  over_by_stop given consumed needed later stop nothing = record {
     given = given;
     consumed = consumed;
     unanswered = None;
@@ -262,6 +269,7 @@ module _ {S K R B : Type 0} (s : Sources S) (k : Sinks K) (r : Racks R) (plans :
     };
     stops = λ done. stop;
     unread = λ failed. absurd (done_isnt_read failed);
+    needed = needed;
     read = λ failed. absurd (done_isnt_read failed);
     later = later;
   }

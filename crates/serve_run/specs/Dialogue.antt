@@ -14,6 +14,7 @@ use Rattle.process_text.specs.Canonical.{line_of}
 use Rattle.schedule_model.specs.declared.event.Event.{Event}
 use Rattle.schedule_model.specs.declared.history.History.{History}
 use Rattle.trace_verify.specs.Lines.{cut}
+use Rattle.line_reader.specs.Taking.{IsReadAsNeeded, most_ahead}
 use Rattle.commute_table.specs.declared.catalog.Catalog.{Catalog}
 use Rattle.process_core.specs.Cores.{CoreState, IsCore, history_of}
 use Rattle.history_files.specs.Sound.{IsSound}
@@ -65,9 +66,11 @@ most_line = 65536
 abbrev pub next_number : ℕ → ℕ
 next_number n = min (n + 1) (2 ^ 64 - 1)
 
--- A line and its answer, the state that the line led to, and the moment of the files at which the answer was whole at the sink.
+-- A line, what stood ready behind it once it was taken, its answer, the state that the line led to, and the moment of the files at
+-- which the answer was whole at the sink.
 pub record Exchange : Type 0 where
   pub line : List ℕ
+  pub ahead : List ℕ
   pub answer : List ℕ
   pub state : DriverState
   pub moment : ℕ
@@ -117,6 +120,10 @@ pub record IsExchange {S K R B : Type 0} (s : Sources S) (k : Sinks K) (r : Rack
   pub given : List ℕ
   pub consumed : Consumes (s.left a.source) (s.left b.source) given
   pub line : cut 10 (a.ready ++ given) ≡ Some (x.line, b.ready)
+  -- the source was called only where no line stood ready, and no more stands ready now than it is asked for at once
+  pub needed : IsReadAsNeeded a.ready given
+  pub ahead : x.ahead ≡ b.ready
+  pub little : length b.ready ≤ most_ahead
   -- it led to this, and this is its answer
   pub answered : IsAnswered a.engine.catalog plans (driver_state a) a.number x.line x.state x.answer
   pub state : x.state ≡ driver_state b
@@ -139,6 +146,22 @@ abbrev pub AreExchanged : {S K R B : Type 0} → Sources S → Sinks K → Racks
 AreExchanged s k r plans a [] b = a ≡ b
 AreExchanged {S} {K} {R} {B} s k r plans a (x ∷ xs) b =
     (m : DialogueState S K R B) × IsExchange s k r plans x a m × AreExchanged s k r plans m xs b
+
+-- Lines and their answers were taken one after another of what stood ready and what came behind it: for each the source was called
+-- only where no line stood ready, and when its answer was given no more stood ready behind it than is asked for at once.
+abbrev pub AreReadInTurn : List ℕ → List ℕ → List Exchange → Type 0
+AreReadInTurn ready given [] = ⊤
+AreReadInTurn ready given (x ∷ xs) =
+    (now later : List ℕ) × (given ≡ now ++ later) × IsReadAsNeeded ready now × (cut 10 (ready ++ now) ≡ Some (x.line, x.ahead))
+    × (length x.ahead ≤ most_ahead) × AreReadInTurn x.ahead later xs
+
+-- The same of all that was taken, of which no more stood ready at first.
+pub record IsReadInTurn (taken : List ℕ) (exchanges : List Exchange) : Type 0 where
+  pub ready : List ℕ
+  pub given : List ℕ
+  pub bytes : taken ≡ ready ++ given
+  pub little : length ready ≤ most_ahead
+  pub turns : AreReadInTurn ready given exchanges
 
 -- what is printed of lines
 abbrev pub printed_of : List Exchange → List ℕ
@@ -211,11 +234,12 @@ IsStop rest left = ((behind : List ℕ) × (cut 10 rest ≡ Some (codes "stop", 
 abbrev pub IsNext : List ℕ → List ℕ → Option (List ℕ) → Option (List ℕ) → Next → Type 0
 IsNext ready rest before after (Line line) =
     (given : List ℕ) × Consumes before after given × (cut 10 (ready ++ given) ≡ Some (line.items, rest))
-    × (length line.items ≤ most_line)
+    × (length line.items ≤ most_line) × IsReadAsNeeded ready given
 IsNext ready rest before after LongLine =
     (given : List ℕ) × (line : List ℕ) × Consumes before after given × (cut 10 (ready ++ given) ≡ Some (line, rest))
-    × (most_line < length line)
-IsNext ready rest before after Stop = (given : List ℕ) × Consumes before after given × IsStop (ready ++ given) after
+    × (most_line < length line) × IsReadAsNeeded ready given
+IsNext ready rest before after Stop =
+    (given : List ℕ) × Consumes before after given × IsStop (ready ++ given) after × IsReadAsNeeded ready given
 
 -- What is printed last, and at which status the dialogue ends with it: an engine and a sink went from one state to the last. A line
 -- may have been taken meanwhile, whose answer was not given.
@@ -253,6 +277,7 @@ pub record IsOver {S K R B : Type 0} (s : Sources S) (k : Sinks K) (r : Racks R)
   pub stops : cut.status ≡ Done → IsStop (a.ready ++ given) (s.left b.source)
   -- the source was called only where no line stood ready
   pub unread : cut.status ≡ ReadFault → HasNoLine (a.ready ++ given)
+  pub needed : IsReadAsNeeded a.ready given
   pub read : cut.status ≡ ReadFault → Rose (s.faults a.source) (s.faults b.source)
   pub later : s.faults a.source ≤ s.faults b.source
 
@@ -273,6 +298,8 @@ pub record HasConversed (c : Catalog) (plans : List Plan) (first : DriverState) 
   -- the lines stand in front of what was taken of the input
   pub rest : List ℕ
   pub lines : taken ≡ bytes_of exchanges ++ rest
+  -- and nothing was read ahead of a line that stood ready
+  pub turns : IsReadInTurn taken exchanges
   pub stops : status ≡ Done → IsStop rest left
   -- a line that stood ready was answered before the source was called
   pub unread : status ≡ ReadFault → HasNoLine rest

@@ -102,6 +102,7 @@ fn hold<S: Source, K: Sink, R: Rack + Drop, B: Resource>(
     };
     complete_all(engine);
     engine.invariant_holds();
+    reader.invariant_holds();
     match give(sink, &text) {
         None => Ending::Told(converse(alloc, engine, plans, reader, source, sink, first)),
         Some(status) => Ending::Told(status),

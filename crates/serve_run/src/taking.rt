@@ -1,8 +1,9 @@
 // What comes next of a dialogue.
-ghost use Rattle.std.specs.Prelude.{◌≡◌, ◌≤◌, ◌⊎◌, ◌++◌, ℕ, List, None, IfOk, IfErr, OnOk};
+ghost use Rattle.std.specs.Prelude.{◌≡◌, ◌≤◌, ◌⊎◌, ◌++◌, ℕ, List, length, None, IfOk, IfErr, OnOk};
 ghost use Rattle.std.specs.Io.KnownBytes.{Consumes};
 ghost use Rattle.process_flow.specs.Causes.{Rose};
 ghost use Rattle.trace_verify.specs.Lines.{cut};
+ghost use Rattle.line_reader.specs.Taking.{IsReadAsNeeded, most_ahead};
 ghost use Rattle.serve_run.specs.Dialogue.{IsNext};
 
 use crate::faults::Fault;
@@ -37,7 +38,8 @@ pub fn next_line<S: Source>(
     ensures quiet { OnOk result (S.faults source.new ≡ S.faults source.old) }
     // The source was called only where no line stood ready.
     ensures gave { IfErr result (λ f. (given : List ℕ) × Consumes (S.left source.old) (S.left source.new) given
-        × (f ≡ Fault.ReadFault → cut 10 (reader.old ++ given) ≡ None)) }
+        × (f ≡ Fault.ReadFault → cut 10 (reader.old ++ given) ≡ None) × IsReadAsNeeded reader.old given) }
+    ensures ahead { length reader.new ≤ most_ahead }
 {
     match reader.take_line(alloc, source, MOST_LINE) {
         Ok(Taken::Line(line)) => {

@@ -1,3 +1,3 @@
-mod Executed
+pub mod Executed
 mod Places
 mod Serial

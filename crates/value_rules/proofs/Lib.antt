@@ -1,12 +1,12 @@
 mod Wraps
 mod Steps
-mod Pairs
-mod Once
-mod Chains
-mod PlanDeeds
-mod HistoryOnce
+pub mod Pairs
+pub mod Once
+pub mod Chains
+pub mod PlanDeeds
+pub mod HistoryOnce
 mod Books
-mod Tells
+pub mod Tells
 mod Takes
 mod Barred
 mod Forward

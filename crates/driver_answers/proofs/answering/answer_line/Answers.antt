@@ -29,6 +29,12 @@ returns-in_err-pieces_text-in-Some-Pieces-clause-goes g c = goes_at_rest g.R.Rac
 pub returns-in_ok-pieces_text-in-Some-Pieces-clause-goes : goal.returns-in_ok-pieces_text-in-Some-Pieces-clause-goes
 returns-in_ok-pieces_text-in-Some-Pieces-clause-goes g c = goes_at_rest g.R.Rack (AsksToStart c.args.engine.now.catalog c.args.plans.now c.args.line.now (request_of c.args.line.now)) c.args.engine.now c.invariant_holds.ensures.run (c.invariant_holds.ensures.each c.requires.ready.settled)
 
+pub returns-in_err-waits_text-in-Some-Waits-clause-goes : goal.returns-in_err-waits_text-in-Some-Waits-clause-goes
+returns-in_err-waits_text-in-Some-Waits-clause-goes g c = goes_at_rest g.R.Rack (AsksToStart c.args.engine.now.catalog c.args.plans.now c.args.line.now (request_of c.args.line.now)) c.args.engine.now c.invariant_holds.ensures.run (c.invariant_holds.ensures.each c.requires.ready.settled)
+
+pub returns-in_ok-waits_text-in-Some-Waits-clause-goes : goal.returns-in_ok-waits_text-in-Some-Waits-clause-goes
+returns-in_ok-waits_text-in-Some-Waits-clause-goes g c = goes_at_rest g.R.Rack (AsksToStart c.args.engine.now.catalog c.args.plans.now c.args.line.now (request_of c.args.line.now)) c.args.engine.now c.invariant_holds.ensures.run (c.invariant_holds.ensures.each c.requires.ready.settled)
+
 pub returns-in_err-happened_text-in-Some-Happened-clause-goes : goal.returns-in_err-happened_text-in-Some-Happened-clause-goes
 returns-in_err-happened_text-in-Some-Happened-clause-goes g c = goes_at_rest g.R.Rack (AsksToStart c.args.engine.now.catalog c.args.plans.now c.args.line.now (request_of c.args.line.now)) c.args.engine.now c.invariant_holds.ensures.run (c.invariant_holds.ensures.each c.requires.ready.settled)
 

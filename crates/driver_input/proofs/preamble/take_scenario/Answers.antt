@@ -10,6 +10,7 @@ loop-alloc-preserved g c =
     record {
       in_front = line_on _ _ _ _ _ _ _ _ c.loop-alloc.invariant.in_front part;
       quiet = c.in_ok-take_part.ensures.quiet ∙ c.loop-alloc.invariant.quiet;
+      little = c.take_part.ensures.ahead;
     }
 
 pub returns-in-Mark-clause-taken : goal.returns-in-Mark-clause-taken

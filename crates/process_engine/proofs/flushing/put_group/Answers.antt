@@ -1,10 +1,10 @@
-use Rattle.std.proofs.Common.{◌∙◌, length, inl, inr, sym, subst}
+use Rattle.std.proofs.Common.{◌∙◌, length, inl, inr, rules, sym, subst}
 use Rattle.process_disk.specs.Images.{EachImage}
 use Rattle.schedule_model.specs.Histories.{acts}
 use Rattle.process_core.specs.Cores.{history_of}
 use Rattle.process_engine.specs.Events.{ListsEffects}
 use Rattle.history_files.specs.Sound.{IsSound, IsSoundForEither}
-use Rattle.process_disk.proofs.Images.{each_so}
+use Rattle.process_disk.proofs.Images.{each_so, each_then, follow_then}
 use Rattle.std.specs.Prelude.{OnOk}
 use Rattle.engine_steps.specs.Engines.{full_history}
 use Rattle.engine_steps.specs.Groups.{IsGroupCommitted, with_events}
@@ -33,30 +33,50 @@ prepare_group-requires-clause-may g c = (meets g (goal.at.prepare_group-requires
 pub prepare_group-requires-clause-lacks : goal.prepare_group-requires-clause-lacks
 prepare_group-requires-clause-lacks g c = (meets g (goal.at.prepare_group-requires-clause-lacks g c).After-group_of-group).lacks
 
+pub prepare_group-requires-clause-events : goal.prepare_group-requires-clause-events
+prepare_group-requires-clause-events g c = (meets g (goal.at.prepare_group-requires-clause-events g c).After-group_of-group).are_events
+
 pub record_group-requires-clause-may : goal.record_group-requires-clause-may
 record_group-requires-clause-may g c = (
+  c.args.events.now,
   c.group_of-group.result,
   (recordable c.args.engine.now c.prepare_group.new.self (g.R.Rack.disk c.prepare_group.new.self.files.rack) c.args.events.now c.group_of-group.result (meets g (goal.at.record_group-requires-clause-may g c).After-group_of-group)
       c.prepare_group.ensures.step.core c.prepare_group.ensures.step.catalog c.in_ok-prepare_group.ensures.prepared),
 )
 
-pub record_group-requires-clause-events : goal.record_group-requires-clause-events
-record_group-requires-clause-events g c = (meets g (goal.at.record_group-requires-clause-events g c).After-group_of-group).are_events
-
 pub commit_group-requires-clause-recorded : goal.commit_group-requires-clause-recorded
 commit_group-requires-clause-recorded g c = (
   c.group_of-group.result,
   with_events (full_history c.prepare_group.new.self.core) c.args.events.now,
-  c.in_ok-record_group.ensures.recorded c.group_of-group.result (recordable c.args.engine.now c.prepare_group.new.self (g.R.Rack.disk c.prepare_group.new.self.files.rack) c.args.events.now c.group_of-group.result (meets g (goal.at.commit_group-requires-clause-recorded g c).After-group_of-group)
+  c.in_ok-record_group.ensures.recorded c.args.events.now c.group_of-group.result (recordable c.args.engine.now c.prepare_group.new.self (g.R.Rack.disk c.prepare_group.new.self.files.rack) c.args.events.now c.group_of-group.result (meets g (goal.at.commit_group-requires-clause-recorded g c).After-group_of-group)
       c.prepare_group.ensures.step.core c.prepare_group.ensures.step.catalog c.in_ok-prepare_group.ensures.prepared),
 )
 
 pub returns-clause-committed : goal.returns-clause-committed
 returns-clause-committed g c =
-    let recorded = c.in_ok-record_group.ensures.recorded c.group_of-group.result (recordable c.args.engine.now c.prepare_group.new.self (g.R.Rack.disk c.prepare_group.new.self.files.rack) c.args.events.now c.group_of-group.result (meets g (goal.at.returns-clause-committed g c).After-group_of-group)
+    let recorded = c.in_ok-record_group.ensures.recorded c.args.events.now c.group_of-group.result (recordable c.args.engine.now c.prepare_group.new.self (g.R.Rack.disk c.prepare_group.new.self.files.rack) c.args.events.now c.group_of-group.result (meets g (goal.at.returns-clause-committed g c).After-group_of-group)
     c.prepare_group.ensures.step.core c.prepare_group.ensures.step.catalog c.in_ok-prepare_group.ensures.prepared) in
     subst (λ k. OnOk c.commit_group.result (IsGroupCommitted c.commit_group.new.self (g.R.Rack.disk c.commit_group.new.self.files.rack) (with_events (full_history k) c.args.events.now))) c.prepare_group.ensures.step.core
     (c.commit_group.ensures.committed c.group_of-group.result (with_events (full_history c.prepare_group.new.self.core) c.args.events.now) recorded)
+
+-- each image of the first two steps
+pub returns-in_err-record_group-clause-any_moment : goal.returns-in_err-record_group-clause-any_moment
+returns-in_err-record_group-clause-any_moment g c told =
+    let e = c.args.engine.now in
+    let prepared = c.prepare_group.ensures in
+    let written = c.record_group.ensures in
+    let may = recordable e c.prepare_group.new.self (g.R.Rack.disk c.prepare_group.new.self.files.rack) c.args.events.now c.group_of-group.result (meets g (goal.at.returns-in_err-record_group-clause-any_moment g c).After-group_of-group)
+    prepared.step.core prepared.step.catalog c.in_ok-prepare_group.ensures.prepared in
+    let told_one = prepared.rack.tells ∙ told in
+    let events = c.args.events.now in
+    let disk_one = g.R.Rack.disk c.prepare_group.new.self.files.rack in
+    let disk_two = g.R.Rack.disk c.record_group.new.self.files.rack in
+    let P = IsSoundForEither e.catalog (full_history e.core) (with_events (full_history e.core) events) in
+    each_then disk_one disk_two (g.R.Rack.disk e.files.rack).moment P (prepared.rack.follow told).later (written.rack.follow told_one)
+    (each_so disk_one (g.R.Rack.disk e.files.rack).moment (IsSound e.catalog (full_history e.core)) P (λ files sound. inl sound) (prepared.any_moment told))
+    (subst (λ k. EachImage disk_two disk_one.moment (IsSoundForEither e.catalog (full_history k) (with_events (full_history k) events))) prepared.step.core
+    (subst (λ d. EachImage disk_two disk_one.moment (IsSoundForEither d (full_history c.prepare_group.new.self.core) (with_events (full_history c.prepare_group.new.self.core) events))) prepared.step.catalog
+    (written.any_moment told_one events c.group_of-group.result may)))
 
 pub returns-clause-any_moment : goal.returns-clause-any_moment
 returns-clause-any_moment g c told =
@@ -64,8 +84,9 @@ returns-clause-any_moment g c told =
     let prepared = c.prepare_group.ensures in
     let written = c.record_group.ensures in
     let later = c.commit_group.ensures in
-    let recorded = c.in_ok-record_group.ensures.recorded c.group_of-group.result (recordable c.args.engine.now c.prepare_group.new.self (g.R.Rack.disk c.prepare_group.new.self.files.rack) c.args.events.now c.group_of-group.result (meets g (goal.at.returns-clause-any_moment g c).After-group_of-group)
-    c.prepare_group.ensures.step.core c.prepare_group.ensures.step.catalog c.in_ok-prepare_group.ensures.prepared) in
+    let may = recordable c.args.engine.now c.prepare_group.new.self (g.R.Rack.disk c.prepare_group.new.self.files.rack) c.args.events.now c.group_of-group.result (meets g (goal.at.returns-clause-any_moment g c).After-group_of-group)
+    c.prepare_group.ensures.step.core c.prepare_group.ensures.step.catalog c.in_ok-prepare_group.ensures.prepared in
+    let recorded = c.in_ok-record_group.ensures.recorded c.args.events.now c.group_of-group.result may in
     let told_one = prepared.rack.tells ∙ told in
     let told_two = written.rack.tells ∙ told_one in
     let events = c.args.events.now in
@@ -77,8 +98,26 @@ returns-clause-any_moment g c told =
     (prepared.rack.follow told) (written.rack.follow told_one) (later.rack.follow told_two)
     (each_so disk_one (g.R.Rack.disk e.files.rack).moment (IsSound e.catalog (full_history e.core)) P (λ files sound. inl sound) (prepared.any_moment told))
     (subst (λ k. EachImage disk_two disk_one.moment (IsSoundForEither e.catalog (full_history k) (with_events (full_history k) events))) prepared.step.core
-    (subst (λ d. EachImage disk_two disk_one.moment (IsSoundForEither d (full_history c.prepare_group.new.self.core) (with_events (full_history c.prepare_group.new.self.core) events))) prepared.step.catalog (written.any_moment told_one)))
+    (subst (λ d. EachImage disk_two disk_one.moment (IsSoundForEither d (full_history c.prepare_group.new.self.core) (with_events (full_history c.prepare_group.new.self.core) events))) prepared.step.catalog (written.any_moment told_one events c.group_of-group.result may)))
     (each_so disk_three disk_two.moment (IsSound e.catalog (with_events (full_history e.core) events)) P (λ files sound. inr sound)
     (subst (λ k. EachImage disk_three disk_two.moment (IsSound e.catalog (with_events (full_history k) events))) prepared.step.core
     (subst (λ d. EachImage disk_three disk_two.moment (IsSound d (with_events (full_history c.prepare_group.new.self.core) events))) (written.step.catalog ∙ prepared.step.catalog)
     (later.any_moment told_two c.group_of-group.result (with_events (full_history c.prepare_group.new.self.core) events) recorded))))
+
+pub returns-clause-rack : goal.returns-clause-rack
+returns-clause-rack g c = record {
+  follow = λ told.
+      let start = g.R.Rack.disk c.args.engine.now.files.rack in
+      let one = g.R.Rack.disk c.prepare_group.new.self.files.rack in
+      let two = g.R.Rack.disk c.record_group.new.self.files.rack in
+      let three = g.R.Rack.disk c.commit_group.new.self.files.rack in
+      let told_one = c.prepare_group.ensures.rack.tells ∙ told in
+      let told_two = c.record_group.ensures.rack.tells ∙ told_one in
+      let told_three = c.commit_group.ensures.rack.tells ∙ told_two in
+      follow_then start two three (g.met.R.Rack.honest c.commit_group.new.self.files.rack told_three)
+      (follow_then start one two (g.met.R.Rack.honest c.record_group.new.self.files.rack told_two) (c.prepare_group.ensures.rack.follow told) (c.record_group.ensures.rack.follow told_one))
+      (c.commit_group.ensures.rack.follow told_two);
+  tells = c.commit_group.ensures.rack.tells ∙ (c.record_group.ensures.rack.tells ∙ c.prepare_group.ensures.rack.tells);
+  later = search rules;
+  fault = search rules;
+}

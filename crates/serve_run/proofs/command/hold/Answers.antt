@@ -22,7 +22,7 @@ returns-in-None-clause-held g c =
     held g.S.Source g.K.Sink g.R.Rack g.met.R.Rack.honest c.args.plans.now
     (state_at c.args.source.now c.args.reader.now c.give.new.sink c.complete_all.new.engine none_at_hand c.args.first)
     (state_at c.converse.new.source c.converse.new.reader c.converse.new.sink c.converse.new.engine told.0 told.1)
-    c.converse.result at told.2 c.args.engine.now c.args.sink.now c.requires.opened c.invariant_holds.ensures.run (ap (λ e. e.core) c.complete_all.ensures.engine) refl c.complete_all.ensures.goes
+    c.converse.result at c.invariant_holds-3.ensures told.2 c.args.engine.now c.args.sink.now c.requires.opened c.invariant_holds.ensures.run (ap (λ e. e.core) c.complete_all.ensures.engine) refl c.complete_all.ensures.goes
     (subst (Appends (g.K.Sink.taken c.args.sink.now) (g.K.Sink.taken c.give.new.sink)) text whole.0) whole.1
 
 pub returns-clause-held : goal.returns-clause-held

@@ -1,4 +1,4 @@
-use Rattle.std.proofs.Common.{[], ◌∷◌, ◌++◌, arith, inr, refl, subst, sym}
+use Rattle.std.proofs.Common.{[], ◌∷◌, ◌++◌, arith, inl, inr, refl, subst, sym}
 use Rattle.std.proofs.KnownBytes.{Consumes-nil}
 use Rattle.process_tree.specs.Order.{Each}
 use Rattle.engine_steps.specs.Beginning.{IsPlanFor}
@@ -54,7 +54,7 @@ returns-clause-held g c =
         exchanged = so_far.1;
         over =
             over_by_fault g.S.Source g.K.Sink g.R.Rack c.args.plans.now c.loop.source c.loop.source c.loop.reader c.loop.reader c.loop.sink c.tell_fault-2.new.sink c.loop.engine (hand_of c.loop.hand) c.loop.number c.loop.invariant.between
-            NoMemory c.tell_fault-2.result [] (Consumes-nil (g.S.Source.left c.loop.source)) (λ is. absurd (cc)) (omega arith) (inr refl) c.tell_fault-2.ensures;
+            NoMemory c.tell_fault-2.result [] (Consumes-nil (g.S.Source.left c.loop.source)) (λ is. absurd (cc)) (inl refl) (omega arith) (inr refl) c.tell_fault-2.ensures;
       },
     )
 
@@ -75,6 +75,6 @@ returns-in_default-clause-held g c =
         exchanged = refl;
         over =
             over_by_fault g.S.Source g.K.Sink g.R.Rack c.args.plans.now c.args.source.now c.args.source.now c.args.reader.now c.args.reader.now c.args.sink.now c.tell_fault.new.sink c.args.engine.now none_at_hand c.args.first between
-            NoMemory c.tell_fault.result [] (Consumes-nil (g.S.Source.left c.args.source.now)) (λ is. absurd (cc)) (omega arith) (inr refl) c.tell_fault.ensures;
+            NoMemory c.tell_fault.result [] (Consumes-nil (g.S.Source.left c.args.source.now)) (λ is. absurd (cc)) (inl refl) (omega arith) (inr refl) c.tell_fault.ensures;
       },
     )

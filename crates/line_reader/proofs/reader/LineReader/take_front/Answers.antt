@@ -9,10 +9,10 @@ invariant_of-self c =
     let bytes = c.self.inside.bytes.items in
     let is : cut 10 (drop at bytes) ≡ Some (c.in-Some.front.now, c.in-Some.field-0-1.now) =
     ap (cut 10) (sym (rest_is bytes at)) ∙ (ap (λ bs. cut 10 (take (length bs - at) (drop at bs))) (sym c.deref.ensures.value) ∙ c.in-Some.ensures) in
-    cut_within bytes c.in-Some.front.now c.in-Some.field-0-1.now at 10 c.self.invariant is
+    (cut_within bytes c.in-Some.front.now c.in-Some.field-0-1.now at 10 c.self.invariant.0 is, c.self.invariant.1)
 
-pub returns-in_ok-keep-in-Some : goal.returns-in_ok-keep-in-Some
-returns-in_ok-keep-in-Some c =
+pub returns-in_ok-keep-in-Some-clause-taken : goal.returns-in_ok-keep-in-Some-clause-taken
+returns-in_ok-keep-in-Some-clause-taken c =
     let at = c.self.inside.at in
     let bytes = c.self.inside.bytes.items in
     let front = c.in-Some.front.now in

@@ -1,0 +1,10 @@
+pub mod ExactlyOnce
+pub mod Facts
+pub mod Names
+pub mod SettlingEnds
+pub mod Sound
+pub mod Steps
+pub mod Tables
+pub mod Tests
+pub mod Waiting
+pub mod Working

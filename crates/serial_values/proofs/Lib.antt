@@ -1,0 +1,4 @@
+mod Applied
+mod LogValues
+mod Subsystems
+pub mod SamePlans
