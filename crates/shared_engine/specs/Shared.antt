@@ -8,7 +8,7 @@ use Rattle.process_disk.specs.Images.{EachImage}
 use Rattle.process_tree.specs.Order.{Each}
 use Rattle.resource_box.specs.declared.resource.Resource.{Ghosts as Resources}
 use Rattle.process_core.specs.Cores.{IsCore}
-use Rattle.history_files.specs.Effects.{subsystem_of}
+use Rattle.engine_steps.specs.Targets.{targets_of}
 use Rattle.history_files.specs.Sound.{IsSound}
 use Rattle.history_files.specs.Standing.{EachFits}
 use Rattle.engine_steps.specs.Engines.{EngineState, full_history}
@@ -57,7 +57,7 @@ pub record MayBeCalled {R B : Type 0} (box : Resources B) (x : SharedEngine R B)
 -- of the rack failed; what is queued was handed out; and what was kept is by the answers that the entries tell of.
 pub record AreOf {R B : Type 0} (racks : Racks R) (box : Resources B) (o : EngineState R B)
     (entries : List TurnEntry) (x : SharedEngine R B) : Type 0 where
-  pub told : AreTold (subsystem_of o.catalog.ops) (opened o) entries (progress x)
+  pub told : AreTold (targets_of o.catalog.ops) (opened o) entries (progress x)
   pub goes : GoesOnAlone racks o x.engine
   pub called : MayBeCalled box x
   pub fault : IfClosed x.engine.phase (Rose (racks.faults o.files.rack) (racks.faults x.engine.files.rack))

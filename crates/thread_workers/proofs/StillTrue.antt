@@ -16,7 +16,7 @@ use Rattle.schedule_model.proofs.Active.{is_active-is_in}
 use Rattle.machine_model.specs.Advance.{advance_all}
 use Rattle.machine_model.specs.CallLaws.{IsStuck}
 use Rattle.machine_model.specs.Calls.{Call, IsNoStart, finish, next, next_is}
-use Rattle.machine_model.specs.Groups.{Subsystems}
+use Rattle.machine_model.specs.Groups.{Targets}
 use Rattle.machine_model.specs.Moment.{Moment, Piece}
 use Rattle.machine_model.specs.Pieces.{runs}
 use Rattle.machine_model.specs.Replies.{all_ended, all_victims, next_reply, none_free_by_active, piece_of_free, stuck, victims}
@@ -160,16 +160,16 @@ closed_flush p (flushed.Flushed n) is = is
 closed_flush p flushed.DiskFault is = refl
 closed_flush p (flushed.Closed k) is = is
 
-module _ (subsystems : Subsystems) where
+module _ (targets : Targets) where
   -- it is so after another entry,
-  over_after : (o : RunOutcome) (p : Progress) (e : TurnEntry) → IsRunning p.core → IsOver o p → IsTold subsystems p e → IsOver o (after p e)
+  over_after : (o : RunOutcome) (p : Progress) (e : TurnEntry) → IsRunning p.core → IsOver o p → IsTold targets p e → IsOver o (after p e)
   over_after AllEnded p (Next said) is over told = by_request (λ c. active (history_of c) ≡ []) p.core said over (ended_again p.core over)
   over_after AllEnded p (Queue n a s) is over told =
-      subst (λ c. active (history_of c) ≡ []) (sym (still p.core n s (none_moves subsystems p.core p.group p.due (idle_ended p.core is over) p.phase n a s told))) over
+      subst (λ c. active (history_of c) ≡ []) (sym (still p.core n s (none_moves targets p.core p.group p.due (idle_ended p.core is over) p.phase n a s told))) over
   over_after AllEnded p (Flush s) is over told = subst (λ c. active (history_of c) ≡ []) (sym (flush_still p s (idle_ended p.core is over))) over
   over_after (Stuck i) p (Next said) is over told = by_request (IsStuckAt i) p.core said over (stuck_after p.core i (sym over.0))
   over_after (Stuck i) p (Queue n a s) is over told =
-      subst (IsStuckAt i) (sym (still p.core n s (none_moves subsystems p.core p.group p.due over.1.nothing_runs p.phase n a s told))) over
+      subst (IsStuckAt i) (sym (still p.core n s (none_moves targets p.core p.group p.due over.1.nothing_runs p.phase n a s told))) over
   over_after (Stuck i) p (Flush s) is over told = subst (IsStuckAt i) (sym (flush_still p s over.1.nothing_runs)) over
   over_after DiskFault p (Next said) is over told = over
   over_after DiskFault p (Queue n a s) is over told = over
@@ -177,27 +177,27 @@ module _ (subsystems : Subsystems) where
   over_after NoMemory p e is over told = tt
 
   -- after all that come,
-  over_all : (o : RunOutcome) (p x : Progress) (es : List TurnEntry) → IsRunning p.core → IsOver o p → AreTold subsystems p es x → IsOver o x
+  over_all : (o : RunOutcome) (p x : Progress) (es : List TurnEntry) → IsRunning p.core → IsOver o p → AreTold targets p es x → IsOver o x
   over_all o p x [] is over are = subst (IsOver o) (sym are) over
   over_all o p x (e ∷ es) is over are = over_all o (after p e) x es (running_after p e is) (over_after o p e is over are.0) are.1
 
   -- and after the entry by which the worker stopped.
-  stops_over : (o : RunOutcome) (p : Progress) (e : TurnEntry) → Stops o e → IsTold subsystems p e → IsOver o (after p e)
+  stops_over : (o : RunOutcome) (p : Progress) (e : TurnEntry) → Stops o e → IsTold targets p e → IsOver o (after p e)
   stops_over AllEnded p e is told =
       subst (λ (f : TurnEntry). IsOver AllEnded (after p f)) (sym is)
-      (all_have_ended p.core (after_call p.core next) refl (reported subsystems p.core p.group p.due p.phase asked.AllEnded (subst (IsTold subsystems p) is told)))
+      (all_have_ended p.core (after_call p.core next) refl (reported targets p.core p.group p.due p.phase asked.AllEnded (subst (IsTold targets p) is told)))
   stops_over (Stuck i) p e is told =
-      subst (λ (f : TurnEntry). IsOver (Stuck i) (after p f)) (sym is) (stuck_after p.core i (reported subsystems p.core p.group p.due p.phase (asked.Stuck i) (subst (IsTold subsystems p) is told)))
-  stops_over DiskFault p (Next said) is told = reported subsystems p.core p.group p.due p.phase (asked.Closed is.0) (subst (λ (s : NextSaid). IsTold subsystems p (Next s)) is.1 told)
-  stops_over DiskFault p (Queue n a s) is told = reported_closed subsystems p.core p.group p.due p.phase n a is.0 (subst (λ (r : QueueSaid). IsTold subsystems p (Queue n a r)) is.1 told)
+      subst (λ (f : TurnEntry). IsOver (Stuck i) (after p f)) (sym is) (stuck_after p.core i (reported targets p.core p.group p.due p.phase (asked.Stuck i) (subst (IsTold targets p) is told)))
+  stops_over DiskFault p (Next said) is told = reported targets p.core p.group p.due p.phase (asked.Closed is.0) (subst (λ (s : NextSaid). IsTold targets p (Next s)) is.1 told)
+  stops_over DiskFault p (Queue n a s) is told = reported_closed targets p.core p.group p.due p.phase n a is.0 (subst (λ (r : QueueSaid). IsTold targets p (Queue n a r)) is.1 told)
   stops_over DiskFault p (Flush s) (inl is) told = subst (λ (r : FlushSaid). (after_flush p r).phase ≡ Closed) (sym is) refl
   stops_over DiskFault p (Flush s) (inr is) told =
-      subst (λ (r : FlushSaid). (after_flush p r).phase ≡ Closed) (sym is.1) (flush_closed subsystems p.core p.group p.due p.phase is.0 (subst (λ (r : FlushSaid). IsTold subsystems p (Flush r)) is.1 told))
+      subst (λ (r : FlushSaid). (after_flush p r).phase ≡ Closed) (sym is.1) (flush_closed targets p.core p.group p.due p.phase is.0 (subst (λ (r : FlushSaid). IsTold targets p (Flush r)) is.1 told))
   stops_over NoMemory p e is told = tt
 
-  stopped_in : (o : RunOutcome) (p x : Progress) (e : TurnEntry) (before rest : List TurnEntry) → Stops o e → IsRunning p.core → AreTold subsystems p (before ++ e ∷ rest) x → IsOver o x
+  stopped_in : (o : RunOutcome) (p x : Progress) (e : TurnEntry) (before rest : List TurnEntry) → Stops o e → IsRunning p.core → AreTold targets p (before ++ e ∷ rest) x → IsOver o x
   stopped_in o p x e [] rest stops is are = over_all o (after p e) x rest (running_after p e is) (stops_over o p e stops are.0) are.1
   stopped_in o p x e (f ∷ fs) rest stops is are = stopped_in o (after p f) x e fs rest stops (running_after p f is) are.1
 
-  pub stays_over : (o : RunOutcome) (p x : Progress) (es : List TurnEntry) (e : TurnEntry) → Has e es → Stops o e → IsRunning p.core → AreTold subsystems p es x → IsOver o x
-  stays_over o p x es e has stops is are = stopped_in o p x e has.0 has.1 stops is (subst (λ (l : List TurnEntry). AreTold subsystems p l x) has.2 are)
+  pub stays_over : (o : RunOutcome) (p x : Progress) (es : List TurnEntry) (e : TurnEntry) → Has e es → Stops o e → IsRunning p.core → AreTold targets p es x → IsOver o x
+  stays_over o p x es e has stops is are = stopped_in o p x e has.0 has.1 stops is (subst (λ (l : List TurnEntry). AreTold targets p l x) has.2 are)

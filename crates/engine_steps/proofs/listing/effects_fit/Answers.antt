@@ -3,7 +3,7 @@ use Rattle.std.specs.List.{All}
 use Rattle.std.proofs.lemmas.List.{get_or_default}
 use Rattle.subsystem_store.specs.declared.effect.Effect.{Effect}
 use Rattle.subsystem_store.specs.Bodies.{is_amount}
-use Rattle.process_engine.proofs.effects.effects_fit.Goals as goal
+use Rattle.engine_steps.proofs.listing.effects_fit.Goals as goal
 
 pub each_fits-requires : goal.each_fits-requires
 each_fits-requires c =

@@ -2,7 +2,7 @@ use Rattle.std.proofs.Common.{◌<◌, ◌-◌, ℕ, length}
 use Rattle.std.specs.List.{All}
 use Rattle.subsystem_store.specs.Laws.{FitsItsBytes}
 use Rattle.store_group.specs.Events.{effects_for}
-use Rattle.process_engine.proofs.effects.effects_fit.Given as goal
+use Rattle.engine_steps.proofs.listing.effects_fit.Given as goal
 
 abbrev pub invariant-loop-place : goal.invariant-loop-place
 invariant-loop-place l = record { before : (q : ℕ) → q < l.place → All FitsItsBytes (effects_for l.fn.group q) }
