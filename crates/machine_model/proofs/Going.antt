@@ -61,7 +61,7 @@ begun_where_left c has s fresh left = by_test (has && not s.progress.begun)
     by_test false = left
 
 -- no active process is exhausted
-abbrev NoneExhausted : List Course → Moment → Type 0
+abbrev pub NoneExhausted : List Course → Moment → Type 0
 NoneExhausted courses m = (i : ℕ) → is_active m.events i ≡ true → is_exhausted courses m i ≡ false
 
 module _ (table : ConflictRelation) (plans : List Plan) (good : AreGood plans) where
@@ -88,7 +88,7 @@ module _ (table : ConflictRelation) (plans : List Plan) (good : AreGood plans) w
       rest (advance table cs m (Victim v)) (advance-counts table plans good m (Victim v) counts (victim_may m v is)) (victim_none m v counts is none)
 
   -- so all victims of a request do
-  victims_none : (n : ℕ) (m : Moment) → CountsStand table plans good m → NoneExhausted cs m → NoneExhausted cs (advance_all table cs m (victims n table cs m))
+  pub victims_none : (n : ℕ) (m : Moment) → CountsStand table plans good m → NoneExhausted cs m → NoneExhausted cs (advance_all table cs m (victims n table cs m))
   victims_none zero m counts none = none
   victims_none (suc n) m counts none = none_by n m (victims_none n) counts none (victim_of table cs m) refl
 
@@ -124,28 +124,31 @@ module _ (courses : List Course) (m : Moment) where
 not_blocked : (ex : Bool) (o : Option Blocked) → o ≡ None → (not ex && is_some o) ≡ true → ⊥
 not_blocked ex o none is = false≢true (sym (ap is_some none) ∙ (and_parts (not ex) (is_some o) is).1)
 
-module _ (table : ConflictRelation) (plans : List Plan) (s : Machine) (session : IsSession table plans s) (none : NoneExhausted s.courses (now table s)) where
-  abbrev m : Moment
-  m = now table s
-
+-- Where no active process is exhausted, nobody is stuck: if all have begun, whoever comes next in a restart is free.
+module _ (table : ConflictRelation) (courses : List Course) (m : Moment) (none : NoneExhausted courses m)
+    (turn_is_free : AllHaveBegun m → (i : ℕ) → next_in_restart courses m ≡ Some i → block_of table courses m i ≡ None) where
   -- as a stuck process leaves each one
   abbrev CannotGo : ℕ → Type 0
-  CannotGo i = IsTrue (is_exhausted s.courses m i) ⊎ (IsTrue (has_begun m i) × IsTrue (is_blocked table s.courses m i))
+  CannotGo i = IsTrue (is_exhausted courses m i) ⊎ (IsTrue (has_begun m i) × IsTrue (is_blocked table courses m i))
 
   begun_unless_exhausted : (i : ℕ) → is_active m.events i ≡ true → CannotGo i → has_begun m i ≡ true
   begun_unless_exhausted i active' (inl ex) = absurd (false≢true (sym (none i active') ∙ ex))
   begun_unless_exhausted i active' (inr began) = began.0
 
-  free_goes : (i : ℕ) → is_active m.events i ≡ true → block_of table s.courses m i ≡ None → CannotGo i → ⊥
+  free_goes : (i : ℕ) → is_active m.events i ≡ true → block_of table courses m i ≡ None → CannotGo i → ⊥
   free_goes i active' free (inl ex) = false≢true (sym (none i active') ∙ ex)
-  free_goes i active' free (inr began) = not_blocked (is_exhausted s.courses m i) (block_of table s.courses m i) free began.1
+  free_goes i active' free (inr began) = not_blocked (is_exhausted courses m i) (block_of table courses m i) free began.1
 
-  -- in a session nobody is stuck without being exhausted
-  never_stuck : (k : ℕ) → IsStuck table s.courses m k → ⊥
-  never_stuck k is =
-      let turn = some_turn s.courses m is.some_active in
+  -- nobody is stuck without being exhausted
+  pub nobody_stuck : (k : ℕ) → IsStuck table courses m k → ⊥
+  nobody_stuck k is =
+      let turn = some_turn courses m is.some_active in
       let all : AllHaveBegun m = λ i active'. begun_unless_exhausted i active' (is.nobody_goes i active') in
-      free_goes turn.0 turn.2 (restart_is_free table plans s session all turn.0 turn.1) (is.nobody_goes turn.0 turn.2)
+      free_goes turn.0 turn.2 (turn_is_free all turn.0 turn.1) (is.nobody_goes turn.0 turn.2)
+
+-- so it is in a session
+never_stuck : (table : ConflictRelation) (plans : List Plan) (s : Machine) → IsSession table plans s → NoneExhausted s.courses (now table s) → (k : ℕ) → IsStuck table s.courses (now table s) k → ⊥
+never_stuck table plans s session none k is = nobody_stuck table s.courses (now table s) none (restart_is_free table plans s session) k is
 
 -- where some number passes, the least that does is there
 least_passes : (p : ℕ → Bool) (xs : List ℕ) (i : ℕ) → (((k : ℕ) → is_in k xs ≡ true → p k ≡ false) → ⊥) → i ≡ unwrap_or (least (filter p xs)) 0 → least (filter p xs) ≡ Some i
@@ -162,11 +165,14 @@ least_passes p xs i some is = by_list (filter p xs) refl
         ap least found ∙ (first.1 ∙ ap Some (sym (is ∙ (ap (λ (ys : List ℕ). unwrap_or (least ys) 0) found ∙ ap (λ o. unwrap_or o 0) first.1))))
 
 -- so whoever is stuck is the least exhausted process
+pub stuck_exhausted : (table : ConflictRelation) (courses : List Course) (m : Moment) → (AllHaveBegun m → (i : ℕ) → next_in_restart courses m ≡ Some i → block_of table courses m i ≡ None)
+    → (i : ℕ) → IsStuck table courses m i → least (filter (is_exhausted courses m) (active m.events)) ≡ Some i
+stuck_exhausted table courses m turn_is_free i is =
+    least_passes (is_exhausted courses m) (active m.events) i
+    (λ none. nobody_stuck table courses m (λ k goes. none k (is_active-is_in m.events k ∙ goes)) turn_is_free i is) is.least
+
 pub stuck_is_exhausted : StuckIsExhausted
-stuck_is_exhausted table plans s session i is =
-    let m = now table s in
-    least_passes (is_exhausted s.courses m) (active m.events) i
-    (λ none. never_stuck table plans s session (λ k goes. none k (is_active-is_in m.events k ∙ goes)) i is) is.least
+stuck_is_exhausted table plans s session i is = stuck_exhausted table s.courses (now table s) (restart_is_free table plans s session) i is
 
 pub progress_law : ProgressLaw
 progress_law table plans s session none k answered' =

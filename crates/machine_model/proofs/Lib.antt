@@ -9,6 +9,7 @@ pub mod Stuck
 pub mod OneOut
 pub mod TidyMoments
 pub mod RefusedPieces
+pub mod RefusedBefore
 pub mod Frames
 pub mod Least
 pub mod Cascades
