@@ -10,5 +10,5 @@ returns-in-Ok c =
     let plans = c.deref-in-Ok.ensures.value in
     let found = c.deref-in-Ok-2.ensures.value ∙ c.in_ok-found-in-Ok.ensures ∙ ap (warnings c.in-Ok.field-0.catalog) c.deref.ensures.value in
     IfOk-weaker c.shown.result (λ text. text.items ≡ shown c.in-Ok.field-0.catalog.ops c.deref-in-Ok.result.now c.deref-in-Ok-2.result.now)
-    (λ text. AreWarningsIn c.args.input.now text.items)
+    (λ text. AreWarningsIn c.args.status c.args.input.now text.items)
     (λ text is. inl (c.in-Ok.field-0.catalog, c.in-Ok.field-0.plans.items, c.in-Ok.ensures.bound, is ∙ ap₂ (shown c.in-Ok.field-0.catalog.ops) plans found)) c.shown.ensures
