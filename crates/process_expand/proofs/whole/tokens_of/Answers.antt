@@ -1,4 +1,4 @@
-use Rattle.std.proofs.Common.{◌≡◌, ◌∙◌, ◌+◌, ◌++◌, [], ◌∷◌, List, ℕ, ap, sym, map, length, drop, arith}
+use Rattle.std.proofs.Common.{◌≡◌, ◌∙◌, ◌+◌, ◌++◌, [], ◌∷◌, ap, sym, map, length, drop, arith}
 use Rattle.std.specs.Prelude.{Some, slice_get}
 use Rattle.std.proofs.lemmas.List.{append_assoc, length-map}
 use Rattle.process_expand.specs.Reader.{before_of, place_of}
@@ -8,23 +8,6 @@ use Rattle.process_expand.proofs.whole.tokens_of.Goals as goal
 
 pub returns-in-Err-clause-fault : goal.returns-in-Err-clause-fault
 returns-in-Err-clause-fault c =
-<<<<<<< ours
-    let fault = c.in-Err.ensures.fault in
-    let error = c.error_at.ensures in
-    let told = c.loop-number.invariant.told in
-    let requires = c.requires in
-    let test = c.loop-number-test.true in
-    ?
-
-pub loop-number-preserved : goal.loop-number-preserved
-loop-number-preserved c =
-    let turn = c.in-Ok.ensures.turn in
-    let role = c.in-Ok.ensures.role in
-    let items = c.in_ok-push-in-Ok.ensures.items in
-    let tokens = c.loop-number.invariant.tokens in
-    let test = c.loop-number-test.true in
-    ?
-=======
     let ws = map (λ w. w.now) c.args.words.now in
     let n = c.loop-number.number in
     let count : length ws ≡ length c.args.words.now = length-map c.args.words.now (λ w. w.now) in
@@ -50,4 +33,3 @@ loop-number-preserved c =
           ∙ sym (ap (λ ts. c.loop-number.tokens.items ++ ts) (token_next before after place next ws n c.word_at.result.now c.in-Ok.role is turn c.in-Ok.ensures.role))
           ∙ c.loop-number.invariant.tokens;
     }
->>>>>>> theirs
