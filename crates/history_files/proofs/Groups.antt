@@ -26,7 +26,7 @@ use Rattle.history_files.proofs.Preparing.{MayCome, good_prepared, is_ready}
 use Rattle.history_files.proofs.SoundImages.{sound_by}
 
 -- the book of each store comes to the effects of the history
-may_be_now : {B : Type 0} (c : Catalog) (h : History) (log : LogState) (stores : List (Opened B)) (disk : Disk) (q : ℕ) (s : Opened B) → AreStores stores → Stand c h log stores disk → slice_get stores q ≡ Some s
+pub may_be_now : {B : Type 0} (c : Catalog) (h : History) (log : LogState) (stores : List (Opened B)) (disk : Disk) (q : ℕ) (s : Opened B) → AreStores stores → Stand c h log stores disk → slice_get stores q ≡ Some s
     → MayBe (effects c.ops h q) q (s.book, s.doubt)
 may_be_now c h log stores disk q s are stand at = record {
   good = subst (λ k. IsGoodBook k s.book s.doubt) (are.kind q s at) (stand.good q s at);

@@ -22,6 +22,8 @@ pub mod FewEffects
 pub mod Undoables
 pub mod StandingSteps
 pub mod MayBePrepared
+pub mod NextGroups
 pub mod BoxKinds
 pub mod Groups
 pub mod GroupBooks
+pub mod WrittenGroups

@@ -5,6 +5,7 @@ mod Examples
 pub mod Groups
 pub mod Images
 pub mod Laws
+pub mod NextGroups
 pub mod Sound
 pub mod Standing
 pub mod Rooms

@@ -4,13 +4,14 @@ ghost use Rattle.process_disk.specs.Disk.{Told};
 ghost use Rattle.process_disk.specs.Racks.{LeavesImages};
 ghost use Rattle.process_disk.specs.Images.{EachImage};
 ghost use Rattle.gate_log.specs.LogFile.{records_size};
-ghost use Rattle.gate_log.specs.Staging.{staging, unstaged, with_staged};
+ghost use Rattle.gate_log.specs.Staging.{MayOpen, staging, unstaged, with_staged};
 ghost use Rattle.schedule_model.specs.declared.history.History.{History};
 ghost use Rattle.commute_table.specs.declared.catalog.Catalog.{Catalog};
 ghost use Rattle.journal_records.specs.declared.record.Record.{Record};
 ghost use Rattle.journal_records.specs.Bytes.{bytes_of};
 ghost use Rattle.process_journal.specs.Journals.{AreMadeBy, IsHistoryUnder, IsMadeBy};
 ghost use Rattle.process_journal.specs.Opened.{GoesOn, GoesOnStaged};
+ghost use Rattle.process_journal.specs.Staged.{IsOnDisk};
 ghost use Rattle.history_files.specs.Sound.{IsSound, IsSoundForEither};
 ghost use Rattle.history_files.specs.Standing.{AreGoodBooks, ComeTo, EachFits, Stand, StandForSome};
 ghost use Rattle.store_group.specs.Events.{BecomeEach, IsUnchanged, IsPrepared, IsCommitted, MayPrepareEach, effects_for};
@@ -112,6 +113,29 @@ impl<R: Rack + Drop, B: Resource> Files<R, B> {
         ensures rack { LeavesImages R.Rack self.old.rack self.new.rack (IsErr result) }
     {
         self.journal.append_staged(&mut self.rack)
+    }
+
+    /// Adds all staged records, which are on the disk behind their closed gate, to the journal, with one sync. A crash leaves files
+    /// that are sound for the history before them or with all of them.
+    pub fn record_written(&mut self) -> Result<(), DiskFault>
+        requires staged { self.old.journal.staged ≢ [] }
+        requires on_disk { Told (R.disk self.old.rack) → MayOpen self.old.journal (R.disk self.old.rack) }
+        ensures acknowledged { Told (R.disk self.old.rack) → (c : Catalog) (h after : History) (rs : List Record)
+            → Stand c h self.old.journal self.old.stores (R.disk self.old.rack) →
+            IsOnDisk self.old.journal c h (R.disk self.old.rack) → self.old.journal.staged ≡ map bytes_of rs →
+            AreMadeBy c rs h after → ComeTo c.ops after self.old.stores →
+            OnOk result (Stand c after self.new.journal self.new.stores (R.disk self.new.rack)) }
+        ensures any_moment { Told (R.disk self.old.rack) → (c : Catalog) (h after : History) (rs : List Record)
+            → Stand c h self.old.journal self.old.stores (R.disk self.old.rack) →
+            IsOnDisk self.old.journal c h (R.disk self.old.rack) → self.old.journal.staged ≡ map bytes_of rs →
+            AreMadeBy c rs h after → ComeTo c.ops after self.old.stores →
+            EachImage (R.disk self.new.rack) (R.disk self.old.rack).moment (IsSoundForEither c h after) }
+        ensures same { self.new.stores ≡ self.old.stores }
+        ensures ok { OnOk result (self.new.journal ≡ with_staged self.old.journal) }
+        ensures err { OnErr result (self.new.journal ≡ self.old.journal) }
+        ensures rack { LeavesImages R.Rack self.old.rack self.new.rack (IsErr result) }
+    {
+        self.journal.open_staged(&mut self.rack)
     }
 
     /// Adds a record to the journal, by itself. A crash leaves files that are sound for the history before it or with it.

@@ -20,11 +20,14 @@ mod handing_back;
 mod laws;
 mod making;
 mod parts;
+mod putting;
 mod rooms;
 
 pub use boxes::{clear_all, put_back};
 pub use effects::{effect_of, subsystem_of};
 pub use faults::{CreateError, CreateRefused};
 pub use files::{FILES, Files, SUBSYSTEMS};
-pub use laws::{books_come_to_groups, events_add_effects, next_effects_may_be_prepared};
+pub use laws::{
+    books_come_to_groups, events_add_effects, groups_may_be_prepared, next_effects_may_be_prepared,
+};
 pub use parts::Parts;

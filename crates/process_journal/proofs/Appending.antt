@@ -17,7 +17,7 @@ use Rattle.process_journal.specs.Opened.{Stands, IsJournalOfEither}
 use Rattle.process_journal.proofs.BodiesPushed.{bodies_made, are_good, bodies_made_all}
 
 -- the bodies of a journal with those of the records that are staged
-all_bodies : (c : Catalog) (rs : List Record) (h after : History) (staged : List (List ℕ)) → IsHistoryUnder c h → staged ≡ map bytes_of rs → AreMadeBy c rs h after → journal_bodies c h ++ staged ≡ journal_bodies c after
+pub all_bodies : (c : Catalog) (rs : List Record) (h after : History) (staged : List (List ℕ)) → IsHistoryUnder c h → staged ≡ map bytes_of rs → AreMadeBy c rs h after → journal_bodies c h ++ staged ≡ journal_bodies c after
 all_bodies c rs h after staged before are made = ap (λ (bs : List (List ℕ)). journal_bodies c h ++ bs) are ∙ sym (bodies_made_all c rs h after before made)
 
 -- a log with the record's bytes stands for the history with it

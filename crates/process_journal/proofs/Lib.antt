@@ -14,3 +14,4 @@ pub mod Beginnings
 pub mod MadeHistories
 pub mod MadeAlike
 pub mod NeverRefused
+pub mod StagedParts

@@ -7,3 +7,4 @@ pub mod Errors
 pub mod Laws
 mod Examples
 pub mod Replays
+pub mod Staged

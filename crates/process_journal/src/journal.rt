@@ -33,7 +33,7 @@ use std::marker::Model;
 /// File 0, which stands for a catalog and a history. After a `DiskFault` it is opened again before any other call.
 #[derive(Drop)]
 pub struct Journal {
-    log: Log,
+    pub(crate) log: Log,
     // room for the longest record
     buffer: Vec<u8>,
 }

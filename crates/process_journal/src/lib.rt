@@ -9,6 +9,7 @@
 mod errors;
 mod journal;
 mod laws;
+mod parts;
 mod plans;
 mod reading;
 mod replay;

@@ -1,5 +1,5 @@
 pub mod Beside
 pub mod InOrder
-mod InTurn
-mod Synced
-mod Taken
+pub mod InTurn
+pub mod Synced
+pub mod Taken

@@ -44,8 +44,8 @@ fn open_one<R: Rack, B: Resource>(store: &Store<B>, rack: &mut R) -> Result<(), 
     }
 }
 
-// Writes what is staged in each store behind its closed gate, and syncs nothing.
-fn write_each<R: Rack, B: Resource>(stores: &[Store<B>], rack: &mut R) -> Result<(), DiskFault>
+/// Writes what is staged in each store behind its closed gate, and syncs nothing.
+pub fn write_each<R: Rack, B: Resource>(stores: &[Store<B>], rack: &mut R) -> Result<(), DiskFault>
     requires order { AreInOrder stores.now }
     requires stand { Told (R.disk rack.old) → AllStand stores.now (R.disk rack.old) }
     ensures written { Told (R.disk rack.old) → OnOk result (OfEach (λ s. HasWritten s (R.disk rack.new)) stores.now) }
@@ -97,8 +97,11 @@ fn put_behind_gates<R: Rack, B: Resource>(
     sync(rack)
 }
 
-// Opens the gates, and waits until that is on the disk.
-fn open_on_disk<R: Rack, B: Resource>(stores: &[Store<B>], rack: &mut R) -> Result<(), DiskFault>
+/// Opens the gates of what is on the disk behind them, and waits until that is on the disk.
+pub fn open_on_disk<R: Rack, B: Resource>(
+    stores: &[Store<B>],
+    rack: &mut R,
+) -> Result<(), DiskFault>
     requires order { AreInOrder stores.now }
     requires on_disk { Told (R.disk rack.old) → OfEach (λ s. HasOnDisk s (R.disk rack.old)) stores.now }
     ensures staged { Told (R.disk rack.old) → OnOk result (OfEach (λ s. HasStaged s (R.disk rack.new)) stores.now) }

@@ -73,8 +73,8 @@ fn take_commit<B: Resource>(store: &mut Store<B>)
     }
 }
 
-// Stages the effects at each place in the store there.
-fn stage_effects<B: Resource>(stores: &mut Vec<Store<B>>, effects: &[Effects])
+/// Stages the effects at each place in the store there.
+pub fn stage_effects<B: Resource>(stores: &mut Vec<Store<B>>, effects: &[Effects])
     requires may { MayPrepareEach effects.now stores.old.items }
     ensures { BecomeEach (λ q s t. StagesEffects (effects_for effects.now q) s t) stores.old.items stores.new.items }
 {
@@ -85,8 +85,8 @@ fn stage_effects<B: Resource>(stores: &mut Vec<Store<B>>, effects: &[Effects])
     }
 }
 
-// Takes the staged effects at each place in the store there.
-fn take_effects<B: Resource>(stores: &mut Vec<Store<B>>, effects: &[Effects])
+/// Takes the staged effects at each place in the store there, once the gates of their records are open on the disk.
+pub fn take_effects<B: Resource>(stores: &mut Vec<Store<B>>, effects: &[Effects])
     requires may { MayTakeEach effects.now stores.old.items }
     requires fits { OfEach (λ s. Fits B.Resource (account_of s)) stores.old.items }
     ensures takes { BecomeEach (λ q s t. TakesEffects (effects_for effects.now q) s t) stores.old.items stores.new.items }

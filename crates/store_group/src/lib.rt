@@ -13,5 +13,6 @@ mod disk;
 mod effects;
 mod events;
 
+pub use disk::{open_on_disk, write_each};
 pub use effects::Effects;
-pub use events::{commit_each, prepare_each};
+pub use events::{commit_each, prepare_each, stage_effects, take_effects};
