@@ -19,6 +19,7 @@ pub mod RunningNext
 pub mod OthersStay
 pub mod OwnEvents
 pub mod Dropped
+mod DroppedPieces
 pub mod LastElements
 pub mod OpenCascade
 pub mod MachineCourses

@@ -1,5 +1,5 @@
 -- The laws of calls and of turns, as statements.
-use Rattle.std.specs.Prelude.{◌≡◌, ◌≢◌, ◌⊎◌, ◌↔◌, ◌≤◌, ℕ, List, [], ◌++◌, length, map, filter, IsTrue, Some, None}
+use Rattle.std.specs.Prelude.{false, ◌≡◌, ◌≢◌, ◌⊎◌, ◌↔◌, ◌≤◌, ℕ, List, [], ◌++◌, length, map, filter, IsTrue, Some, None}
 use Rattle.process_tree.specs.declared.plan.Plan.{Plan}
 use Rattle.process_tree.specs.Shape.{least}
 use Rattle.schedule_model.specs.declared.event.Event.{Event}
@@ -16,7 +16,7 @@ use Rattle.machine_model.specs.Advance.{Machine, advance_all}
 use Rattle.machine_model.specs.Runs.{history, is_run, now}
 use Rattle.machine_model.specs.Replies.{stuck, victims, all_victims, least_exhausted}
 use Rattle.machine_model.specs.Calls.{IsNoStart, Call, answer, answer_next, answered, next_is}
-use Rattle.machine_model.specs.Groups.{Subsystems, flush_kept}
+use Rattle.machine_model.specs.Groups.{Targets, Taken, flush_kept, queue_reply}
 use Rattle.machine_model.specs.Turns.{Board, Turn, AreTurns}
 use Rattle.machine_model.specs.Laws.{IsSession}
 
@@ -60,9 +60,9 @@ StuckIsExhausted = (table : ConflictRelation) (plans : List Plan) (s : Machine) 
 
 -- Turns make a run: where nothing was queued at first, what they keep makes a longer one.
 abbrev pub TurnsMakeRuns : Type 0
-TurnsMakeRuns = (table : ConflictRelation) (subsystems : Subsystems) (b last : Board) (ts : List Turn) → b.group ≡ []
+TurnsMakeRuns = (table : ConflictRelation) (targets : Targets) (b last : Board) (ts : List Turn) → b.group ≡ []
     → IsTrue (is_run table b.machine)
-    → AreTurns table subsystems b ts last → IsTrue (is_run table last.machine)
+    → AreTurns table targets b ts last → IsTrue (is_run table last.machine)
 
 -- A flush keeps an effect for each piece of the group that runs, in order.
 abbrev pub FlushesKeepWhatRuns : Type 0
@@ -70,6 +70,12 @@ FlushesKeepWhatRuns = (m : Moment) (group : List ℕ) → flush_kept m group ≡
 
 -- Whatever is queued is out or was dropped, so that a flush tells of each piece where its event stands or when it was dropped.
 abbrev pub QueuedAreOutOrDropped : Type 0
-QueuedAreOutOrDropped = (table : ConflictRelation) (subsystems : Subsystems) (b last : Board) (ts : List Turn) → b.group ≡ []
+QueuedAreOutOrDropped = (table : ConflictRelation) (targets : Targets) (b last : Board) (ts : List Turn) → b.group ≡ []
     → IsTrue (is_run table b.machine)
-    → AreTurns table subsystems b ts last → (n : ℕ) → IsTrue (is_in n last.group) → state_of (now table last.machine) n ≢ Over
+    → AreTurns table targets b ts last → (n : ℕ) → IsTrue (is_in n last.group) → state_of (now table last.machine) n ≢ Over
+
+-- A piece of the group that was dropped changes no answer to the queueing of another.
+abbrev pub DroppedChangeNoAnswer : Type 0
+DroppedChangeNoAnswer = (table : ConflictRelation) (targets : Targets) (courses : List Course) (m : Moment) (group : List ℕ) (n : ℕ)
+    (taken : Taken) → is_in n group ≡ false
+    → queue_reply table targets courses m (filter (runs m) group) n taken ≡ queue_reply table targets courses m group n taken
