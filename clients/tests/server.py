@@ -26,9 +26,10 @@ def why_skipped(python):
 class Server:
     """It listens on a socket of its folder alone. Where root runs it, it runs as the user postgres, since a server refuses to run as root.
 
-    Its files needn't outlast the machine here, only the server, so it doesn't wait for the disk, unless `durable` asks for it."""
+    Its files needn't outlast the machine here, only the server, so it doesn't wait for the disk, unless `durable` asks for it.
+    `settings` are lines of its configuration, which go over those here."""
 
-    def __init__(self, *, durable=False):
+    def __init__(self, *, durable=False, settings=""):
         self.folder, self.tools, self.process = tempfile.mkdtemp(prefix="sihtolem-pg-"), tools(), None
         self.user = {}
         if os.geteuid() == 0:
@@ -39,6 +40,7 @@ class Server:
         with open(f"{self.folder}/data/postgresql.conf", "a") as file:
             file.write(f"listen_addresses = ''\nunix_socket_directories = '{self.folder}'\nmax_prepared_transactions = 300\nmax_connections = 200\n")
             file.write("" if durable else "fsync = off\n")
+            file.write(settings)
         self.start()
 
     def __enter__(self):

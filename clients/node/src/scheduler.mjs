@@ -21,8 +21,6 @@ import { Work } from "./participants.mjs";
 import { conflict, operationsOf, readReport } from "./report.mjs";
 
 const debug = debuglog("sihtolem");
-// So many ends are in one group at most.
-const MOST_ENDS = 8;
 const DEFAULTS = { program: "tps", alone: [], mostActive: 64, workers: 16, patience: 60_000, firstPause: 50, longestPause: 30_000 };
 
 /** Nothing is out, and nothing can go on: tries are used up. */
@@ -471,26 +469,10 @@ export class Scheduler {
 
   /** Reports what is prepared: one piece by `finish`, more of them by one `flush`. What finds no room in it comes first in the next one. */
   async #reportPrepared() {
-    const jobs = this.#nextGroup();
+    const jobs = this.prepared;
+    this.prepared = [];
     if (jobs.length === 1) this.#answered(jobs[0], (await this.dialogue.ask(`finish ${jobs[0].piece.number} ${wordOf(jobs[0])}`))[0]);
     else if (jobs.length) await this.#reportGroup(jobs);
-  }
-
-  /** What may be in one group: the first piece of each operation, since a group has one of each store, eight ends, and all that was refused. The
-   * rest stays. */
-  #nextGroup() {
-    const counts = new Map();
-    const left = [];
-    const taken = this.prepared.filter((job) => {
-      const { operation } = job.piece;
-      const count = counts.get(operation) ?? 0;
-      const isTaken = job.refusal !== null || count < (job.work ? 1 : MOST_ENDS);
-      if (isTaken) counts.set(operation, count + 1);
-      else left.push(job);
-      return isTaken;
-    });
-    this.prepared = left;
-    return taken;
   }
 
   async #reportGroup(jobs) {

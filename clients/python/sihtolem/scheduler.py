@@ -32,8 +32,6 @@ from .report import Report, conflict, operations_of, read_report
 from .settling import Action
 
 log = logging.getLogger("sihtolem")
-# So many ends are in one group at most.
-MOST_ENDS = 8
 
 
 @dataclass(frozen=True)
@@ -562,24 +560,11 @@ class Scheduler:
 
     def _report_prepared(self) -> None:
         """Reports what is prepared: one piece by `finish`, more of them by one `flush`. What finds no room in it comes first in the next one."""
-        jobs = self._next_group()
+        jobs, self._prepared = self._prepared, []
         if len(jobs) == 1:
             self._answered(jobs[0], self._ask(f"finish {jobs[0].piece.number} {self._word(jobs[0])}")[0])
         elif jobs:
             self._report_group(jobs)
-
-    def _next_group(self) -> list[Job]:
-        """What may be in one group: the first piece of each operation, since a group has one of each store, eight ends, and all that was refused.
-        The rest stays."""
-        taken, left, operations = [], [], list[str]()
-        for job in self._prepared:
-            if job.refusal is not None or operations.count(job.piece.operation) < (MOST_ENDS if job.work is None else 1):
-                taken.append(job)
-                operations.append(job.piece.operation)
-            else:
-                left.append(job)
-        self._prepared = left
-        return taken
 
     def _report_group(self, jobs: list[Job]) -> None:
         assert self._dialogue

@@ -25,7 +25,8 @@ behind_folder words = words
 -- a command that reads standard input takes the name of a file in place of it
 abbrev pub takes_file : Option Command → Bool
 takes_file (Some command.Check) = true
-takes_file (Some (command.Init values)) = true
+takes_file (Some command.Expand) = true
+takes_file (Some (command.Init values strict)) = true
 takes_file (Some (command.Run workers)) = true
 takes_file (Some command.Session) = true
 takes_file (Some command.Serve) = true

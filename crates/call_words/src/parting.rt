@@ -49,7 +49,13 @@ fn takes_file(command: Option<Command>) -> bool
 {
     match command {
         Some(Command::Check)
-        | Some(Command::Init { values: _ })
+        | Some(Command::Expand)
+        | Some(
+            Command::Init {
+                values: _,
+                strict: _,
+            },
+        )
         | Some(Command::Run { workers: _ })
         | Some(Command::Session)
         | Some(Command::Serve)

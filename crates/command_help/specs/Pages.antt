@@ -2,13 +2,14 @@
 use Rattle.std.specs.Prelude.{ℕ, List, Option, Some, None, codes}
 use Rattle.program_words.specs.declared.names.CommandName.{CommandName}
 use Rattle.program_words.specs.declared.names.CommandName.TheVariants as name
-use Rattle.command_help.specs.declared.pages.TheConstants.{COMMANDS, CHECK, INIT, RUN, SESSION, SERVE, RESTART, SHOW, REPLAY}
+use Rattle.command_help.specs.declared.pages.TheConstants.{COMMANDS, CHECK, EXPAND, INIT, RUN, SESSION, SERVE, RESTART, SHOW, REPLAY}
 use Rattle.command_help.specs.declared.pages.TheConstants.{VERIFY, AUDIT, GEN, BULK, HELP, VERSION}
 
 -- the page on a command, or on all
 abbrev pub page_of : Option CommandName → List ℕ
 page_of None = COMMANDS.now
 page_of (Some name.Check) = CHECK.now
+page_of (Some name.Expand) = EXPAND.now
 page_of (Some name.Init) = INIT.now
 page_of (Some name.Run) = RUN.now
 page_of (Some name.Session) = SESSION.now

@@ -12,6 +12,7 @@ BeginsWithUsage n =
 
 pub each_page_is_of_its_command : (n : CommandName) → BeginsWithUsage n
 each_page_is_of_its_command name.Check = refl
+each_page_is_of_its_command name.Expand = refl
 each_page_is_of_its_command name.Init = refl
 each_page_is_of_its_command name.Run = refl
 each_page_is_of_its_command name.Session = refl

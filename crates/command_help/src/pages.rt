@@ -3,7 +3,8 @@
 pub(crate) const COMMANDS: &str = "usage: tps [-C FOLDER] COMMAND [FILE]
 
   check              tells of each process of a text whether it can get stuck
-  init [--values]    makes the files for the operations of a scenario
+  expand             writes out what follows a choice, in each of its ways
+  init [OPTIONS]     makes the files for the operations of a scenario
   run [--workers N]  runs the processes of a scenario to their ends
   session            answers the lines behind a scenario
   serve              answers each line before it reads the next, for a driver
@@ -34,15 +35,27 @@ exit status: 0 all are well-formed, 3 one is not, 2 the text has a fault,
 4 a limit is passed
 ";
 
-pub(crate) const INIT: &str = "usage: tps init [--values] [FILE | < SCENARIO]
+pub(crate) const EXPAND: &str = "usage: tps expand [FILE | < PROCESSES]
+
+Reads a process text in which 'then' may stand behind the 'done' of a choice,
+and steps behind that, and prints the text without it: each way of the choice
+has the steps at its end. The copies of a step are called STEP_2, STEP_3 ..
+
+exit status: 0 printed, 2 the text has a fault, 4 a limit is passed, of the
+text or of what is to be written
+";
+
+pub(crate) const INIT: &str = "usage: tps init [--values] [--strict] [FILE | < SCENARIO]
 
 Makes the files tps.0 to tps.8 of the current folder for the operations and
 conflicts of a scenario, and prints 'created'. Its processes are not read.
 Files that have a byte are left alone. With --values, two operations whose
-order can matter to the books have to be in conflict.
+order can matter to the books have to be in conflict. With --strict its
+processes are read too, and what is warned of else is refused: 'warned N'.
 
 exit status: 0 made, 2 the scenario has a fault or leaves out such a conflict,
-4 a limit is passed, 6 a file is not empty
+3 it is warned of or a process is not well-formed, 4 a limit is passed, 6 a
+file is not empty
 ";
 
 pub(crate) const RUN: &str = "usage: tps run [--workers N] [FILE | < SCENARIO]

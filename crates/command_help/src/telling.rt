@@ -13,6 +13,7 @@ fn page_of(about: Option<CommandName>) -> &'static str
     match about {
         None => pages::COMMANDS,
         Some(CommandName::Check) => pages::CHECK,
+        Some(CommandName::Expand) => pages::EXPAND,
         Some(CommandName::Init) => pages::INIT,
         Some(CommandName::Run) => pages::RUN,
         Some(CommandName::Session) => pages::SESSION,

@@ -138,7 +138,7 @@ module _ (c : CoreState) (core : IsCore c) (k : Kept) (may : may_be_kept (relati
     root_stays : StaysFor cs middle after root
     root_stays = subst (λ o. StaysFor cs middle o root) (sym is.drags)
         (all_begin-keep (λ o. StaysFor cs middle o root) (stays-beginnings (relation c) cs middle root) (Cascade root) middle others
-        (record { history = same_history middle.events root; refused = λ r away. refl; begun = λ has. has; running = λ same. refl }))
+        (record { history = same_history middle.events root; refused = λ r away. refl; before = refl; begun = λ has. has; running = λ same. refl }))
 
     and_not : (t : Bool) → (t && not true) ≡ false
     and_not true = refl

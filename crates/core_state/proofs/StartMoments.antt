@@ -111,6 +111,7 @@ module _ (c : CoreState) (core : IsCore c) (p : Plan) where
   stays k = record {
     history = start-leaves m.events i k;
     refused = λ r others. ap (filter r) (refused-plain m.kept (Start i) refl (λ x. refl));
+    before = refl;
     begun = λ is. is;
     running = λ same. refl;
   }

@@ -21,7 +21,7 @@ use Rattle.schedule_model.proofs.Appends.{acts-append, is_in-append}
 use Rattle.schedule_model.proofs.Members.{filter-none}
 use Rattle.schedule_model.proofs.Started.{acts-started}
 use Rattle.machine_model.specs.declared.kept.Kept.TheVariants.{Start}
-use Rattle.machine_model.specs.Moment.{Beginning, Lost, Moment, Piece, beginning_of, has_begun, opening_moment}
+use Rattle.machine_model.specs.Moment.{Beginning, Lost, Moment, Piece, RefusedStep, beginning_of, has_begun, opening_moment}
 use Rattle.machine_model.specs.Pieces.{hands, is_try_of, refusals, refused_pieces, running_of}
 use Rattle.machine_model.specs.ProcessState.{opening_state}
 use Rattle.machine_model.specs.Progress.{Progress, is_only_try, next_task, same_work, staying}
@@ -30,6 +30,7 @@ use Rattle.machine_model.specs.State.{entry_of, hold_of, next_of, owed_soon, pen
 use Rattle.machine_model.proofs.Dropped.{IsLost, run-in_order}
 use Rattle.machine_model.proofs.Frames.{same_history, same_progress}
 use Rattle.machine_model.proofs.HoldSteps.{find_none}
+use Rattle.machine_model.proofs.RefusedBefore.{none-refused_before}
 use Rattle.machine_model.proofs.RefusedPieces.{refused-plain}
 use Rattle.machine_model.proofs.WaysOn.{drop_past}
 use Rattle.instance_state.specs.Instances.{InstanceState, opened}
@@ -101,7 +102,9 @@ module _ (c : CoreState) (core : IsCore c) (p : Plan) where
 
   progress_new : progress ds after i ≡ progress ds (opening_moment after.events) i
   progress_new = same_progress ds (opening_moment after.events) after i (same_history after.events i)
-      (ap (map (λ (q : Piece). q.step)) (none_refused (λ q. eqb q.process i && is_only_try (shape ds i) q.step q.work) (λ q other. ap (λ t. t && is_only_try (shape ds i) q.step q.work) other)))
+      (ap (λ (rs : List RefusedStep). map (λ (r : RefusedStep). r.step) (filter (λ (r : RefusedStep). eqb r.process i) rs) ++ map (λ (q : Piece). q.step) (filter (λ (q : Piece). eqb q.process i && is_only_try (shape ds i) q.step q.work) (refused_pieces after.kept)))
+      (none-refused_before (relation c) (machine_of c) core.session.run)
+      ∙ ap (map (λ (q : Piece). q.step)) (none_refused (λ q. eqb q.process i && is_only_try (shape ds i) q.step q.work) (λ q other. ap (λ t. t && is_only_try (shape ds i) q.step q.work) other)))
       none_begun
 
   state_new : process_state ds after i ≡ opening_state (course_of p) []

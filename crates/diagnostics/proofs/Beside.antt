@@ -7,7 +7,7 @@ use Rattle.diagnostics.specs.Diagnostics.{takes_memory, AreWarningsOf, IsAboutEn
 use Rattle.refusal_hints.specs.Remedies.{ending_hint}
 
 -- warnings, where no refusal is there
-pub warned : (words : List (List ℕ)) (number : ℕ) (input : Option (List ℕ)) (text : List ℕ) → takes_memory words number None ≡ true → AreWarningsOf input text
+pub warned : (words : List (List ℕ)) (number : ℕ) (input : Option (List ℕ)) (text : List ℕ) → takes_memory words number None ≡ true → AreWarningsOf number input text
     → IsBeside words number None input text
 warned words number input text is said = subst (λ (b : _). IsAboutEnd b number input text) (sym is) said
 

@@ -1,11 +1,11 @@
 -- What is said to people beside an answer.
-use Rattle.std.specs.Prelude.{◌≡◌, ◌⊎◌, ℕ, Bool, true, false, ◌&&◌, nat_eq, List, [], ◌∷◌, codes, Option, Some, None, if◌then◌else◌}
+use Rattle.std.specs.Prelude.{◌≡◌, ◌⊎◌, ℕ, Bool, true, false, ◌&&◌, ◌||◌, nat_eq, List, [], ◌∷◌, codes, Option, Some, None, if◌then◌else◌}
 use Rattle.std.specs.Str.{bytes_eq}
 use Rattle.process_tree.specs.declared.plan.Plan.{Plan}
 use Rattle.commute_table.specs.declared.catalog.Catalog.{Catalog}
 use Rattle.command_refusals.specs.declared.refusal.Refusal.{Refusal}
 use Rattle.command_refusals.specs.declared.status.Status.{Status}
-use Rattle.command_refusals.specs.declared.status.Status.TheVariants.{Done}
+use Rattle.command_refusals.specs.declared.status.Status.TheVariants.{Done, IllFormed}
 use Rattle.command_refusals.specs.Statuses.{number_of}
 use Rattle.command_input.specs.declared.scenario.NoPlans.{NoPlans}
 use Rattle.command_input.specs.Scenarios.{IsBound, IsNotBound}
@@ -23,33 +23,35 @@ abbrev pub first_is : List ℕ → List (List ℕ) → Bool
 first_is word [] = false
 first_is word (first ∷ words) = bytes_eq first word
 
--- what the input of a call is: `check` reads a text of processes, and all others that read a text of processes a scenario around it
+-- what the input of a call is: `check` and `expand` read a text of processes, and all others that read a text of processes a scenario
+-- around it
 abbrev pub form_of : List (List ℕ) → InputForm
-form_of words = if first_is (codes "check") words then Processes else Scenario
+form_of words = if first_is (codes "check") words || first_is (codes "expand") words then Processes else Scenario
 
--- an `init` that made its files looks for warnings
+-- an `init` that made its files looks for warnings, and so does one that had something to hold against its scenario
 abbrev pub warns : List (List ℕ) → ℕ → Bool
-warns words number = first_is (codes "init") words && nat_eq number (number_of Done)
+warns words number = first_is (codes "init") words && (nat_eq number (number_of Done) || nat_eq number (number_of IllFormed))
 
 -- the hint of a refusal of this input; where the input doesn't fit, the same without a place
 abbrev pub IsHintOf : InputForm → Option (List ℕ) → Refusal → List ℕ → Type 0
 IsHintOf form (Some input) r text = IsHint form input r text
 IsHintOf form None r text = text ≡ hint_text nowhere r
 
--- the warnings of the scenario that this input is; nothing where it has no processes that can be played, or memory was wanting
-abbrev pub AreWarningsIn : List ℕ → List ℕ → Type 0
-AreWarningsIn input text =
+-- the warnings of the scenario that this input is; what there is to say of a status of this number where it has no processes that can
+-- be played, or memory was wanting
+abbrev pub AreWarningsIn : ℕ → List ℕ → List ℕ → Type 0
+AreWarningsIn number input text =
     ((c : Catalog) × (plans : List Plan) × IsBound input c plans × (text ≡ shown c.ops plans (warnings c plans)))
-    ⊎ ((none : NoPlans) × IsNotBound input none × (text ≡ []))
+    ⊎ ((none : NoPlans) × IsNotBound input none × (text ≡ ending_hint number))
 
 -- the same of an input that may not fit
-abbrev pub AreWarningsOf : Option (List ℕ) → List ℕ → Type 0
-AreWarningsOf (Some input) text = AreWarningsIn input text
-AreWarningsOf None text = text ≡ []
+abbrev pub AreWarningsOf : ℕ → Option (List ℕ) → List ℕ → Type 0
+AreWarningsOf number (Some input) text = AreWarningsIn number input text
+AreWarningsOf number None text = text ≡ ending_hint number
 
 -- so where warnings are looked for, and else what there is to say of a status of this number
 abbrev pub IsAboutEnd : Bool → ℕ → Option (List ℕ) → List ℕ → Type 0
-IsAboutEnd true number input text = AreWarningsOf input text
+IsAboutEnd true number input text = AreWarningsOf number input text
 IsAboutEnd false number input text = text ≡ ending_hint number
 
 -- what there is to say beside an answer on these words, at a status of this number, with this refusal or none, of an input: the

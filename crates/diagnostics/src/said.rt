@@ -1,11 +1,12 @@
 // What is said beside an answer.
 ghost use Rattle.std.specs.Prelude.{◌≡◌, map, string_bytes, true, IfOk};
 ghost use Rattle.std.specs.Option.{option_map};
+ghost use Rattle.refusal_hints.specs.Remedies.{ending_hint};
 ghost use Rattle.diagnostics.specs.Diagnostics.{first_is, form_of, takes_memory, warns, AreWarningsIn, AreWarningsOf, IsBeside, IsHintOf};
 
 use command_input::{Bound, scenario_of};
 use command_refusals::Refusal;
-use refusal_hints::{InputForm, hint, placeless_hint};
+use refusal_hints::{InputForm, ending_hint, hint, placeless_hint};
 use scenario_warnings::{shown, warnings};
 use std::alloc::{AllocError, Global};
 
@@ -23,7 +24,7 @@ fn first_is(words: &[String], word: &str) -> bool
 fn form_of(words: &[String]) -> InputForm
     ensures { result ≡ form_of (map string_bytes words.now) }
 {
-    if first_is(words, "check") {
+    if first_is(words, "check") || first_is(words, "expand") {
         InputForm::Processes
     } else {
         InputForm::Scenario
@@ -34,7 +35,7 @@ fn form_of(words: &[String]) -> InputForm
 fn warns(words: &[String], status: u8) -> bool
     ensures { result ≡ warns (map string_bytes words.now) status }
 {
-    first_is(words, "init") && status == 0
+    first_is(words, "init") && (status == 0 || status == 3)
 }
 
 // The hint of a refusal of this input, where it fits.
@@ -52,26 +53,35 @@ fn hint_of(
     }
 }
 
-// The warnings of a scenario, if it is one with processes that can be played.
-fn warnings_in(alloc: Global, input: &[u8]) -> Result<Vec<u8>, AllocError>
-    ensures { IfOk result (λ text. AreWarningsIn input.now text.items) }
+// The bytes of what is said of a status.
+fn ending(alloc: Global, status: u8) -> Result<Vec<u8>, AllocError>
+    ensures { IfOk result (λ text. text.items ≡ ending_hint status) }
+{
+    let mut text = Vec::new(alloc);
+    text.extend_from_slice(ending_hint(status).as_bytes())?;
+    Ok(text)
+}
+
+// The warnings of a scenario, if it is one with processes that can be played; and else what is to be said of the status.
+fn warnings_in(alloc: Global, status: u8, input: &[u8]) -> Result<Vec<u8>, AllocError>
+    ensures { IfOk result (λ text. AreWarningsIn status input.now text.items) }
 {
     match scenario_of(alloc, input) {
         Ok(Bound { catalog, plans }) => {
             let found = warnings(alloc, &catalog, &plans)?;
             shown(alloc, &catalog, &plans, &found)
         }
-        Err(_) => Ok(Vec::new(alloc)),
+        Err(_) => ending(alloc, status),
     }
 }
 
 // The same of an input that may not fit.
-fn warnings_of(alloc: Global, input: Option<Vec<u8>>) -> Result<Vec<u8>, AllocError>
-    ensures { IfOk result (λ text. AreWarningsOf (option_map (λ i. i.items) input) text.items) }
+fn warnings_of(alloc: Global, status: u8, input: Option<Vec<u8>>) -> Result<Vec<u8>, AllocError>
+    ensures { IfOk result (λ text. AreWarningsOf status (option_map (λ i. i.items) input) text.items) }
 {
     match input {
-        Some(input) => warnings_in(alloc, &input),
-        None => Ok(Vec::new(alloc)),
+        Some(input) => warnings_in(alloc, status, &input),
+        None => ending(alloc, status),
     }
 }
 
@@ -100,6 +110,6 @@ pub(crate) fn beside(
 {
     match refused {
         Some(refusal) => hint_of(alloc, form_of(words), input, &refusal),
-        None => warnings_of(alloc, input),
+        None => warnings_of(alloc, status, input),
     }
 }

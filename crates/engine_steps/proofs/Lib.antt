@@ -13,3 +13,4 @@ pub mod GroupSteps
 pub mod KeptEffects
 pub mod MadeRoom
 pub mod EmptyGroups
+pub mod ListedEffects

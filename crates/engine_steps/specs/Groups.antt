@@ -9,6 +9,7 @@ use Rattle.gate_log.specs.declared.errors.DiskFault.{DiskFault as DiskFailed}
 use Rattle.schedule_model.specs.declared.event.Event.{Event}
 use Rattle.schedule_model.specs.declared.event.Event.TheVariants.{Start, Act, End}
 use Rattle.schedule_model.specs.declared.history.History.{History}
+use Rattle.schedule_model.specs.Limits.{most_active}
 use Rattle.commute_table.specs.declared.op.Op.{Op}
 use Rattle.journal_records.specs.Bytes.{bytes_of}
 use Rattle.journal_records.specs.declared.record.Record.{Record}
@@ -16,19 +17,14 @@ use Rattle.journal_records.specs.declared.record.Record.TheVariants as records
 use Rattle.subsystem_store.specs.declared.effect.Effect.{Effect}
 use Rattle.subsystem_store.specs.Opened.{Opened}
 use Rattle.store_group.specs.Events.{BecomeEach, IsPrepared, effects_for, has_any}
-use Rattle.process_journal.specs.Bodies.{with_event}
 use Rattle.process_journal.specs.Journals.{AreMadeBy}
 use Rattle.process_journal.specs.Staged.{IsOnDisk}
 use Rattle.history_files.specs.Groups.{AddsGroup}
 use Rattle.history_files.specs.Laws.{AreSettled}
+pub use Rattle.history_files.specs.NextGroups.{with_events, IsNoStart}
 use Rattle.history_files.specs.Standing.{AreGoodBooks, FilesState, Stand}
 use Rattle.engine_steps.specs.Engines.{AreAtRest, EngineState, full_history}
 use Rattle.engine_steps.specs.declared.engines.Phase.TheVariants as phase
-
--- the history with these events, one after another
-abbrev pub with_events : History → List Event → History
-with_events h [] = h
-with_events h (e ∷ es) = with_events (with_event h e) es
 
 -- the record of an event; no group has a start, which the text of a plan would belong to
 abbrev pub record_for : Event → Record
@@ -36,21 +32,15 @@ record_for (Start i) = records.Start i []
 record_for (Act e) = records.Act e
 record_for (End i) = records.End i
 
--- an act or an end
-abbrev pub IsNoStart : Event → Type 0
-IsNoStart (Start i) = ⊥
-IsNoStart (Act e) = ⊤
-IsNoStart (End i) = ⊤
-
 -- the bodies of the records of these events
 abbrev pub bodies_of : List Event → List (List ℕ)
 bodies_of events = map (λ e. bytes_of (record_for e)) events
 
--- the events of a group: one at least, 16 at most, and no start
+-- the events of a group: one at least, one of each process that may be active at most, and no start
 pub record AreGroupEvents (events : List Event) : Type 0 where
   pub acts_or_ends : Each IsNoStart events
   pub some : events ≢ []
-  pub few : length events ≤ 16
+  pub few : length events ≤ most_active
 
 -- there is an effect at some place
 abbrev pub has_effect : List (List Effect) → Bool

@@ -4,7 +4,7 @@ use Rattle.machine_model.specs.Moment.{Piece}
 use Rattle.subsystem_store.specs.declared.effect.Effect.{Effect}
 use Rattle.history_files.specs.Effects.{subsystem_of}
 use Rattle.history_files.specs.Laws.{next_effect}
-use Rattle.history_files.specs.Rooms.{MakesRoom}
+use Rattle.history_files.specs.Rooms.{AddsRoom, KeepsRoom, MakesRoom}
 use Rattle.history_files.specs.Standing.{Changes}
 use Rattle.engine_steps.specs.Engines.{EngineState, full_history}
 use Rattle.engine_steps.specs.Pieces.{act_of}
@@ -21,3 +21,13 @@ pub record MakesRoomFor {R B : Type 0} (old new : EngineState R B) (p : Piece) :
   pub rack : new.files.rack ≡ old.files.rack
   pub journal : new.files.journal ≡ old.files.journal
   pub stores : Changes (subsystem_of old.catalog.ops (act_of old.core.plans p).op) MakesRoom old.files.stores new.files.stores
+
+-- there is room for one effect more, at the key of the piece in the store of its subsystem
+abbrev pub AddsRoomFor : {R B : Type 0} → EngineState R B → EngineState R B → Piece → Type 0
+AddsRoomFor old new p = Changes (subsystem_of old.catalog.ops (act_of old.core.plans p).op) (AddsRoom (effect_of old p).call.key)
+    old.files.stores new.files.stores
+
+-- the room in that store stays as it is
+abbrev pub KeepsRoomFor : {R B : Type 0} → EngineState R B → EngineState R B → Piece → Type 0
+KeepsRoomFor old new p = Changes (subsystem_of old.catalog.ops (act_of old.core.plans p).op) KeepsRoom old.files.stores
+    new.files.stores

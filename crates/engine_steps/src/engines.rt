@@ -11,6 +11,7 @@ ghost use Rattle.history_files.specs.Sound.{IsSound};
 ghost use Rattle.engine_steps.specs.Engines.{AreAtRest, AreExactly, IsClosed, IsUnder, full_history};
 ghost use Rattle.engine_steps.specs.declared.engines.Phase.TheVariants as phase;
 
+use crate::listing::Lists;
 use commute_table::Catalog;
 use history_files::Files;
 use process_core::{Began, Core, Counts, Kept, Piece, PieceState};
@@ -41,6 +42,8 @@ pub struct Engine<R: Rack + Drop, B: Drop = Box<dyn Resource + Send>> {
     pub(crate) catalog: Catalog,
     pub(crate) files: Files<R, B>,
     pub(crate) phase: Phase,
+    // where the effects of a group are listed, so that preparing them takes no memory
+    pub(crate) group: Lists,
 }
 
 impl<R: Rack + Drop, B: Drop> Model for Engine<R, B> {

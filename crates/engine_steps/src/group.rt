@@ -19,6 +19,7 @@ ghost use Rattle.process_core.specs.Answers.{after_call, answer_in};
 ghost use Rattle.process_core.specs.Cores.{IsHandedBy, courses_in, moment_of};
 ghost use Rattle.journal_records.specs.Bytes.{bytes_of};
 ghost use Rattle.subsystem_store.specs.declared.effect.Effect.{Effect};
+ghost use Rattle.engine_steps.specs.Listing.{AreAmounts, next_group};
 ghost use Rattle.process_journal.specs.Staged.{IsOnDisk};
 ghost use Rattle.store_group.specs.Events.{BecomeEach, IsPrepared, MayPrepareEach, effects_for};
 ghost use Rattle.history_files.specs.Groups.{FitEach, HasNoDoubt, LacksEach};
@@ -30,6 +31,7 @@ ghost use Rattle.engine_steps.specs.Groups.{LeavesCore, MayBeRecorded, TouchesJo
 ghost use Rattle.engine_steps.specs.Groups.{bodies_of, record_for, with_events};
 ghost use Rattle.engine_steps.specs.declared.engines.Phase.TheVariants as phase;
 
+use crate::listing::effects_fit;
 use crate::pieces::act_of;
 use crate::{Engine, Phase};
 use gate_log::DiskFault;
@@ -116,29 +118,34 @@ fn write_group<R: Rack + Drop, B: Resource>(
 }
 
 impl<R: Rack + Drop, B: Resource> Engine<R, B> {
-    /// Prepares the effects of a group, each in the store of its subsystem, and writes the records of its events behind the closed
-    /// gate of the journal, with two syncs for all. A crash leaves files that are sound for the history without them. With no
-    /// effect it makes one sync, and touches no store.
-    pub fn prepare_group(&mut self, group: &[Effects], events: &[Event]) -> Result<(), DiskFault>
+    /// Prepares the effects of these events, each in the store of its subsystem, and writes their records behind the closed gate of
+    /// the journal, with two syncs for all. A crash leaves files that are sound for the history without them. It takes no memory.
+    /// With no effect it makes one sync, and touches no store.
+    pub fn prepare_group(&mut self, events: &[Event]) -> Result<(), DiskFault>
         requires fits { EachFits B.Resource self.old.files.stores }
         requires settled { self.old.phase ≡ phase.Settled }
         requires events { AreGroupEvents events.now }
-        requires may { MayPrepareEach group.now self.old.files.stores }
-        requires bytes { FitEach group.now }
-        requires lacks { LacksEach self.old.catalog.ops (full_history self.old.core) group.now }
+        requires may { MayPrepareEach (next_group self.old.catalog.ops (full_history self.old.core) events.now) self.old.files.stores }
+        requires amounts { AreAmounts (next_group self.old.catalog.ops (full_history self.old.core) events.now) }
+        requires lacks { LacksEach self.old.catalog.ops (full_history self.old.core)
+            (next_group self.old.catalog.ops (full_history self.old.core) events.now) }
         ensures step { LeavesCore self.old self.new result }
-        ensures prepared { OnOk result (IsGroupPrepared self.new (R.disk self.new.files.rack) events.now group.now) }
+        ensures prepared { OnOk result (IsGroupPrepared self.new (R.disk self.new.files.rack) events.now
+            (next_group self.old.catalog.ops (full_history self.old.core) events.now)) }
         ensures any_moment { Told (R.disk self.old.files.rack)
             → EachImage (R.disk self.new.files.rack) (R.disk self.old.files.rack).moment
             (IsSound self.old.catalog (full_history self.old.core)) }
-        ensures none { has_effect group.now ≡ false → TouchesJournal R.disk self.old.files self.new.files }
+        ensures none { has_effect (next_group self.old.catalog.ops (full_history self.old.core) events.now) ≡ false
+            → TouchesJournal R.disk self.old.files self.new.files }
         ensures fits { EachFits B.Resource self.new.files.stores }
         ensures rack { LeavesImages R.Rack self.old.files.rack self.new.files.rack (IsErr result) }
     {
         self.core.run_holds();
+        self.group.list_next(&self.core, &self.catalog, events);
+        effects_fit(self.group.as_slice());
         self.files.unstage_records();
         stage_each(&mut self.files, events);
-        match write_group(&mut self.files, group) {
+        match write_group(&mut self.files, self.group.as_slice()) {
             Ok(()) => {
                 self.phase = Phase::UnderWay;
                 Ok(())

@@ -12,6 +12,7 @@ mod beginning;
 mod engines;
 mod group;
 mod handing_back;
+mod listing;
 mod making;
 mod opening;
 mod pieces;

@@ -11,6 +11,7 @@ ghost use Rattle.history_files.specs.declared.faults.CreateError.TheVariants.{Di
 ghost use Rattle.engine_steps.specs.Engines.{AreAtRest, IsNew};
 ghost use Rattle.engine_steps.specs.Opening.{IsRefusedMaking, WereMade};
 
+use crate::listing::Lists;
 use crate::{Engine, Phase};
 use commute_table::Catalog;
 use history_files::{CreateError, CreateRefused, Files, Parts, clear_all};
@@ -21,14 +22,16 @@ use schedule_model::{Events, History, Plans};
 use std::alloc::{AllocError, Global};
 use subsystem_store::calls_make_good_books;
 
-// A core under this catalog in which nothing has happened.
-fn new_core(alloc: Global, catalog: &Catalog) -> Result<Core, AllocError>
-    ensures { IfOk result (λ core. core ≡ opened_on catalog.now.conflicts [] []) }
+// A core under this catalog in which nothing has happened, and where effects are listed.
+fn new_core(alloc: Global, catalog: &Catalog) -> Result<(Core, Lists), AllocError>
+    ensures { IfOk result (λ made. made.0 ≡ opened_on catalog.now.conflicts [] []) }
 {
+    let group = Lists::new(alloc)?;
     let plans = Plans::new(Vec::new(alloc))?;
     let events = Events::new(Vec::new(alloc))?;
     let conflicts = catalog.conflicts.copy(alloc)?;
-    Core::open(alloc, History { plans, events }, conflicts)
+    let core = Core::open(alloc, History { plans, events }, conflicts)?;
+    Ok((core, group))
 }
 
 // Hands the parts back with their boxes empty, for want of memory.
@@ -68,7 +71,7 @@ impl<R: Rack + Drop, B: Resource> Engine<R, B> {
         ensures rack_back { IfErr result (λ r. LeavesImages R.Rack parts.rack r.parts.rack (r.why ≡ Fault)) }
     {
         calls_make_good_books();
-        let Ok(core) = new_core(alloc, &catalog) else {
+        let Ok((core, group)) = new_core(alloc, &catalog) else {
             return Err(without_memory(parts));
         };
         match Files::create(alloc, parts, &catalog) {
@@ -79,6 +82,7 @@ impl<R: Rack + Drop, B: Resource> Engine<R, B> {
                     catalog,
                     files,
                     phase: Phase::Settled,
+                    group,
                 })
             }
             Err(refused) => Err(refused),

@@ -10,6 +10,7 @@ ghost use Rattle.history_opening.specs.declared.faults.OpenError.TheVariants.{Di
 ghost use Rattle.engine_steps.specs.Engines.{AreAtRest, full_history};
 ghost use Rattle.engine_steps.specs.Opening.{IsOn, IsOpened, IsRefusedOpening, WereSettledFor};
 
+use crate::listing::Lists;
 use crate::{Engine, Phase};
 use commute_table::Catalog;
 use history_files::{Files, Parts, clear_all};
@@ -20,15 +21,19 @@ use resource_box::Resource;
 use schedule_model::History;
 use std::alloc::{AllocError, Global};
 
-// A core on a history that a journal of the catalog may have.
-fn opened_core(alloc: Global, catalog: &Catalog, history: History) -> Result<Core, AllocError>
+// A core on a history that a journal of the catalog may have, and where effects are listed.
+fn opened_core(
+    alloc: Global,
+    catalog: &Catalog,
+    history: History,
+) -> Result<(Core, Lists), AllocError>
     requires history { IsHistoryUnder catalog.now history }
-    ensures { IfOk result (λ core. core ≡ opened_on catalog.now.conflicts history.plans history.events) }
+    ensures { IfOk result (λ made. made.0 ≡ opened_on catalog.now.conflicts history.plans history.events) }
 {
-    match catalog.conflicts.copy(alloc) {
-        Ok(conflicts) => Core::open(alloc, history, conflicts),
-        Err(error) => Err(error),
-    }
+    let group = Lists::new(alloc)?;
+    let conflicts = catalog.conflicts.copy(alloc)?;
+    let core = Core::open(alloc, history, conflicts)?;
+    Ok((core, group))
 }
 
 // Hands the parts of files back with their boxes empty, for want of memory.
@@ -63,11 +68,12 @@ fn engine_on<R: Rack + Drop, B: Resource>(
     ensures back { IfErr result (λ r. AreCleared B.Resource r.parts.resources.items) }
 {
     match opened_core(alloc, &catalog, history) {
-        Ok(core) => Ok(Engine {
+        Ok((core, group)) => Ok(Engine {
             core,
             catalog,
             files,
             phase: Phase::Settled,
+            group,
         }),
         Err(_) => Err(closed(files)),
     }

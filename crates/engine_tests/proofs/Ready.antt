@@ -1,5 +1,5 @@
 -- An engine stays ready, the piece that it hands out was handed out by its core, and what is queued at it stays so.
-use Rattle.std.proofs.Common.{◌≡◌, ◌∙◌, ℕ, List, [], arith, refl, sym, subst}
+use Rattle.std.proofs.Common.{◌≡◌, ◌∙◌, ℕ, List, [], refl, sym, subst}
 use Rattle.resource_box.specs.declared.resource.Resource.{Ghosts as Resources}
 use Rattle.machine_model.specs.Calls.{abort, next, next_is}
 use Rattle.machine_model.specs.Replies.{Handed, chosen}
@@ -10,6 +10,7 @@ use Rattle.history_files.specs.Standing.{EachFits}
 use Rattle.engine_steps.specs.Engines.{EngineState, with_core}
 use Rattle.engine_steps.specs.declared.engines.Phase.{Phase}
 use Rattle.engine_steps.specs.declared.engines.Phase.TheVariants as phase
+use Rattle.process_engine.proofs.StillQueued.{none_queued as nothing_queued}
 use Rattle.process_engine.specs.Queues.{AreQueued}
 use Rattle.process_engine.proofs.QueuedCalls.{queued_at_abort, queued_at_next}
 use Rattle.engine_calls.specs.Runs.{IsReady as IsReadyToRun}
@@ -47,7 +48,7 @@ pub none_queued : {R B : Type 0} (box : Resources B) (e : EngineState R B) (grou
     → group ≡ [] → MayQueue box e group
 none_queued box e group ready none = record {
   ready = ready;
-  queued = subst (AreQueued e) (sym none) (record { unfinished = tt; distinct = tt; apart = tt; ends = omega arith; few = omega arith; room = tt });
+  queued = subst (AreQueued e) (sym none) (nothing_queued e);
 }
 
 -- what is queued stays so where any piece is asked for,

@@ -16,21 +16,24 @@ use std::alloc::Global;
 use std::process::Abort;
 use well_formed::{Verdict, check};
 
-// A table of six operations: version and count, then each with its subsystem and verb, and then the pairs of each with itself and
-// the later ones. Adding conflicts with taking, taking with taking, noting with noting, and booking with booking.
-const CATALOG: &[u8] = b"\x01\x06\x00\
+// A table of seven operations: version and count, then each with its subsystem and verb, and then the pairs of each with itself and
+// the later ones. Adding conflicts with taking, taking with taking, noting with noting, and booking with booking; hauling, which takes,
+// with nothing.
+const CATALOG: &[u8] = b"\x01\x07\x00\
 \x03add\x00\x00\
 \x04take\x00\x01\
 \x03pay\x01\x00\
 \x04ship\x02\x00\
 \x04note\x04\x03\
 \x04book\x06\x04\
-\x00\x01\x00\x00\x00\x00\
-\x01\x00\x00\x00\x00\
+\x04haul\x02\x01\
+\x00\x01\x00\x00\x00\x00\x00\
+\x01\x00\x00\x00\x00\x00\
+\x00\x00\x00\x00\x00\
 \x00\x00\x00\x00\
-\x00\x00\x00\
+\x01\x00\x00\
 \x01\x00\
-\x01";
+\x00";
 
 /// What was to be had: memory is never wanting here, and no call fails.
 pub fn must<T: Drop, E: Drop>(rt: &impl Abort, found: Result<T, E>) -> T {

@@ -127,7 +127,7 @@ fn books_of<H: Abort, R: Rack + Drop, B: Resource>(
 
 /// A count that is small.
 pub fn short<H: Abort>(rt: &H, count: u64) -> u32 {
-    assert!(rt; count < 100);
+    assert!(rt; count < 1000);
     count as u32
 }
 

@@ -10,6 +10,9 @@ pub(crate) const NAMES: [&str; 9] = [
     "tps.0", "tps.1", "tps.2", "tps.3", "tps.4", "tps.5", "tps.6", "tps.7", "tps.8",
 ];
 
+// The name of a file that is made to find out whether files can be made, and removed at once.
+pub(crate) const TRIAL: &str = "tps.try";
+
 // An open file, with the place at which the system goes on, where that is known.
 #[derive(Drop)]
 pub(crate) struct Opened {

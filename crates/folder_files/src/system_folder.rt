@@ -9,7 +9,7 @@ ghost use Rattle.folder_files.specs.Folder.{IsSynced, folder_place};
 
 use crate::barred::bar_of;
 use crate::counts::{FOLDER, count};
-use crate::opened::{NAMES, Opened, fresh, held, is_folder, locked, to_read, to_write};
+use crate::opened::{NAMES, Opened, TRIAL, fresh, held, is_folder, locked, to_read, to_write};
 use crate::{Access, Barred, Folder, Subject};
 use process_flow::Failed;
 use std::fs::{File, Metadata, OpenFile, OpenOptions, TryLockError};
@@ -208,6 +208,58 @@ impl<F: Files<File = File> + Drop> SystemFolder<F> {
         }
     }
 
+    // Finds out whether files can be made in the folder, where file 0 isn't there: one of another name is made, and removed.
+    fn probe_making(&mut self) -> Result<(), Barred>
+        ensures cause { IfErr result (λ b. self.new.bar ≡ Some b) }
+        ensures stays { (self.new.taken ≡ self.old.taken) × (self.new.syncs ≡ self.old.syncs) }
+        ensures access { self.new.access ≡ self.old.access }
+        ensures faults { CountsFaults self.old.faults self.new.faults result }
+    {
+        let [journal, ..] = &self.files;
+        if journal.is_some() {
+            return Ok(());
+        }
+        let mut how = OpenOptions::new();
+        how.write(true).create_new(true);
+        let found = match how.open(&self.rt, TRIAL) {
+            Ok(_) => fs::remove_file(&self.rt, TRIAL),
+            Err(error) => Err(error),
+        };
+        self.making_told(found)
+    }
+
+    // What another program tries at the same time can be made, and any other error bars the folder.
+    fn making_told(&mut self, found: io::Result<()>) -> Result<(), Barred>
+        ensures permission { IfErr found (λ e. (error_kind e ≡ ErrorKind.PermissionDenied)
+            ↔ IsErrOf result (Barred.NoPermission Subject.Folder)) }
+        ensures made { OnOk found (IsOk result) }
+        ensures cause { IfErr result (λ b. self.new.bar ≡ Some b) }
+        ensures stays { (self.new.taken ≡ self.old.taken) × (self.new.syncs ≡ self.old.syncs) }
+        ensures access { self.new.access ≡ self.old.access }
+        ensures faults { CountsFaults self.old.faults self.new.faults result }
+    {
+        match found {
+            Ok(()) => Ok(()),
+            Err(error) => match error.kind() {
+                ErrorKind::AlreadyExists => Ok(()),
+                ErrorKind::PermissionDenied => self.barred(Barred::NoPermission(Subject::Folder)),
+                _ => self.barred(Barred::Fault(Subject::Folder)),
+            },
+        }
+    }
+
+    // Finds out whether the folder can be written, and takes it.
+    fn probe_writing(&mut self) -> Result<(), Barred>
+        ensures cause { IfErr result (λ b. self.new.bar ≡ Some b) }
+        ensures stays { IsTrue self.old.taken → IsTrue self.new.taken }
+        ensures syncs { self.new.syncs ≡ self.old.syncs }
+        ensures access { self.new.access ≡ self.old.access }
+        ensures faults { CountsFaults self.old.faults self.new.faults result }
+    {
+        self.probe_making()?;
+        self.probe_lock()
+    }
+
     // Takes the folder, if file 0 is open.
     fn probe_lock(&mut self) -> Result<(), Barred>
         ensures cause { IfErr result (λ b. self.new.bar ≡ Some b) }
@@ -274,7 +326,7 @@ impl<F: Files<File = File> + Drop> Folder for SystemFolder<F> {
         for file in 0..9_u8 {
             self.probe_file(file, writes)?;
         }
-        if writes { self.probe_lock() } else { Ok(()) }
+        if writes { self.probe_writing() } else { Ok(()) }
     }
 
     fn read_only(&mut self)

@@ -20,7 +20,7 @@ use Rattle.command_refusals.specs.declared.status.Status.TheVariants.{Done, Exha
 use Rattle.command_refusals.specs.Statuses.{number_of}
 use Rattle.program_words.specs.Commands.{asked}
 use Rattle.program_words.specs.declared.reading.Command.{Command}
-use Rattle.program_words.specs.declared.reading.Command.TheVariants.{Check, Init, Run, Session, Serve, Restart, Show, Replay, Verify, Audit, Gen, Bulk, Help, Version}
+use Rattle.program_words.specs.declared.reading.Command.TheVariants.{Check, Expand, Init, Run, Session, Serve, Restart, Show, Replay, Verify, Audit, Gen, Bulk, Help, Version}
 use Rattle.process_top.specs.Worlds.{World}
 use Rattle.same_histories.proofs.SameHistories.{one_sound, same_itself, same_through}
 use Rattle.headline.proofs.ExactBooks.{LawsOfBooks}
@@ -110,7 +110,8 @@ module _ {S K R B G : Type 0} (sources : Sources S) (sinks : Sinks K) (racks : R
     by_command (Some Session) is goes = by_other (λ same. absurd (let no = sym is ∙ same in cc))
     by_command (Some Serve) is goes = by_other (λ same. absurd (let no = sym is ∙ same in cc))
     by_command (Some Check) is goes = absurd cc
-    by_command (Some (Init values)) is goes = absurd cc
+    by_command (Some Expand) is goes = absurd cc
+    by_command (Some (Init values strict)) is goes = absurd cc
     by_command (Some Show) is goes = absurd cc
     by_command (Some Verify) is goes = absurd cc
     by_command (Some Replay) is goes = absurd cc

@@ -14,7 +14,7 @@ use Rattle.history_files.specs.Sound.{IsSound}
 use Rattle.engine_steps.specs.Engines.{full_history}
 use Rattle.process_tree.specs.declared.plan.Plan.{Plan}
 use Rattle.program_words.specs.declared.reading.Command.{Command}
-use Rattle.program_words.specs.declared.reading.Command.TheVariants.{Check, Init, Run, Session, Serve, Restart, Show, Replay, Verify, Audit, Gen, Bulk, Help, Version}
+use Rattle.program_words.specs.declared.reading.Command.TheVariants.{Check, Expand, Init, Run, Session, Serve, Restart, Show, Replay, Verify, Audit, Gen, Bulk, Help, Version}
 use Rattle.command_input.specs.Inputs.{Input}
 use Rattle.process_top.specs.Worlds.{World}
 use Rattle.engine_calls.specs.Acknowledged.{ComeInTurn, IsUnderWay, acknowledged, events_of}
@@ -39,7 +39,8 @@ ahead_events (Some Session) before after c h now k ahead = under_way ahead.0 now
 ahead_events (Some Serve) before after c h now k (plans, first, taken, d, status, read, spoken, asked, by_line, ahead) = under_way asked now k ahead
 ahead_events (Some Restart) before after c h now k ahead = (ahead.event ∷ [], ap (λ h. h.events) ahead.is)
 ahead_events (Some Check) before after c h now k ahead = absurd ahead
-ahead_events (Some (Init values)) before after c h now k ahead = absurd ahead
+ahead_events (Some Expand) before after c h now k ahead = absurd ahead
+ahead_events (Some (Init values strict)) before after c h now k ahead = absurd ahead
 ahead_events (Some Show) before after c h now k ahead = absurd ahead
 ahead_events (Some Verify) before after c h now k ahead = absurd ahead
 ahead_events (Some Replay) before after c h now k ahead = absurd ahead

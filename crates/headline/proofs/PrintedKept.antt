@@ -19,7 +19,7 @@ use Rattle.command_refusals.specs.declared.status.Status.TheVariants as statuses
 use Rattle.command_input.specs.declared.said.Said.{Said}
 use Rattle.program_words.specs.Commands.{asked}
 use Rattle.program_words.specs.declared.reading.Command.{Command}
-use Rattle.program_words.specs.declared.reading.Command.TheVariants.{Check, Init, Run, Session, Serve, Restart, Show, Replay, Verify, Audit, Gen, Bulk, Help, Version}
+use Rattle.program_words.specs.declared.reading.Command.TheVariants.{Check, Expand, Init, Run, Session, Serve, Restart, Show, Replay, Verify, Audit, Gen, Bulk, Help, Version}
 use Rattle.scenario_run.specs.Run.{SaysRun, IsRunDue as IsRunFound}
 use Rattle.session_run.specs.Session.{phase_by, IsSessionDue as IsSessionFound}
 use Rattle.process_top.specs.Commands.{IsDueTo}
@@ -65,7 +65,8 @@ module _ {S K R : Type 0} (before after : World S K R) (known : Told before.file
   held other (Some Serve) gates prints due = absurd cc
   held other (Some Restart) gates prints due = absurd cc
   held other (Some Check) gates prints due = absurd cc
-  held other (Some (Init values)) gates prints due = absurd cc
+  held other (Some Expand) gates prints due = absurd cc
+  held other (Some (Init values strict)) gates prints due = absurd cc
   held other (Some Show) gates prints due = absurd cc
   held other (Some Verify) gates prints due = absurd cc
   held other (Some Replay) gates prints due = absurd cc

@@ -14,7 +14,7 @@ use Rattle.command_refusals.specs.Statuses.{number_of}
 use Rattle.command_refusals.specs.declared.status.Status.{Status}
 use Rattle.command_refusals.specs.declared.status.Status.TheVariants as statuses
 use Rattle.program_words.specs.declared.reading.Command.{Command}
-use Rattle.program_words.specs.declared.reading.Command.TheVariants.{Check, Init, Run, Session, Serve, Restart, Show, Replay, Verify, Audit, Gen, Bulk, Help, Version}
+use Rattle.program_words.specs.declared.reading.Command.TheVariants.{Check, Expand, Init, Run, Session, Serve, Restart, Show, Replay, Verify, Audit, Gen, Bulk, Help, Version}
 use Rattle.command_input.specs.declared.said.Said.{Said}
 use Rattle.command_refusals.specs.declared.refusal.Refusal.{Refusal}
 use Rattle.scenario_run.specs.Opening.{IsNotOpenedFor}
@@ -262,7 +262,8 @@ module _ {S K R : Type 0} (c : Catalog) (h : History) (before after : World S K 
   went_by (Some Serve) goes reply due out = serve_due reply due out
   went_by (Some Restart) goes reply due out = restart_due reply due out
   went_by (Some Check) goes reply due out = absurd cc
-  went_by (Some (Init values)) goes reply due out = absurd cc
+  went_by (Some Expand) goes reply due out = absurd cc
+  went_by (Some (Init values strict)) goes reply due out = absurd cc
   went_by (Some Show) goes reply due out = absurd cc
   went_by (Some Verify) goes reply due out = absurd cc
   went_by (Some Replay) goes reply due out = absurd cc

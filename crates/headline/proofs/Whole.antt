@@ -17,7 +17,7 @@ use Rattle.command_refusals.specs.declared.refusal.Refusal.{Refusal}
 use Rattle.command_refusals.specs.Statuses.{number_of}
 use Rattle.program_words.specs.Commands.{asked}
 use Rattle.program_words.specs.declared.reading.Command.{Command}
-use Rattle.program_words.specs.declared.reading.Command.TheVariants.{Check, Init, Run, Session, Serve, Restart, Show, Replay, Verify, Audit, Gen, Bulk, Help, Version}
+use Rattle.program_words.specs.declared.reading.Command.TheVariants.{Check, Expand, Init, Run, Session, Serve, Restart, Show, Replay, Verify, Audit, Gen, Bulk, Help, Version}
 use Rattle.process_top.specs.Commands.{Answers}
 use Rattle.process_top.specs.Worlds.{World}
 use Rattle.headline.proofs.ExactBooks.{LawsOfBooks}
@@ -59,7 +59,8 @@ module _ {S K R B G : Type 0} (sources : Sources S) (sinks : Sinks K) (racks : R
     agree (Some Restart) now came went moment read begins holds is =
         restarts_agree c h (good_history c h entry.created.history) (see before) (see after) now came went moment read begins holds
     agree (Some Check) now came went moment read begins holds is = absurd cc
-    agree (Some (Init values)) now came went moment read begins holds is = absurd cc
+    agree (Some Expand) now came went moment read begins holds is = absurd cc
+    agree (Some (Init values strict)) now came went moment read begins holds is = absurd cc
     agree (Some (Run workers)) now came went moment read begins holds is = absurd cc
     agree (Some Session) now came went moment read begins holds is = absurd cc
     agree (Some Serve) now came went moment read begins holds is = absurd cc

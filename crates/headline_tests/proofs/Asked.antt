@@ -7,8 +7,8 @@ use Rattle.program_words.specs.declared.reading.Command.TheVariants.{Init, Resta
 use Rattle.program_words.proofs.Complete.{form_asked}
 use Rattle.headline_tests.specs.Example.{run_words}
 
-pub init_asked : asked (codes "init" ∷ []) ≡ Some (Init false)
-init_asked = form_asked (Init false) (codes "init" ∷ []) refl
+pub init_asked : asked (codes "init" ∷ []) ≡ Some (Init false false)
+init_asked = form_asked (Init false false) (codes "init" ∷ []) refl
 
 pub session_asked : asked (codes "session" ∷ []) ≡ Some Session
 session_asked = form_asked Session (codes "session" ∷ []) refl

@@ -37,11 +37,11 @@ module _ {S K R : Type 0} (before after : World S K R) (told : Told before.files
   abbrev Made : Type 0
   Made = (c : Catalog) × IsSound c no_history after.files.disk.files
 
-  made_by : (reply : Reply) → IsInitDue false before.input after.input before.files after.files reply → IsReplyTold reply before.output after.output status → Made
+  made_by : (reply : Reply) → IsInitDue false false before.input after.input before.files after.files reply → IsReplyTold reply before.output after.output status → Made
   made_by created (c, read, made) out = (c, made.read told)
   made_by (refused r) due out = absurd (never_done r before.output after.output status done out)
   made_by (checked ps vs) due out = absurd due
-  made_by (ended said) due out = absurd due
+  made_by (ended said) ((bytes, whole, (s, says, sound, (is, held))), untouched) out = absurd (let strict = is in cc)
   made_by (shown c h) due out = absurd due
   made_by (served text at) due out = absurd due
   made_by accepted due out = absurd due

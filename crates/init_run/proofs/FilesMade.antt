@@ -1,5 +1,5 @@
 -- What `init` has to say is due.
-use Rattle.std.proofs.Common.{◌≡◌, ℕ, List, Bool, Result, Ok, Err, IfOk, IfErr, refl, sym, subst, inr}
+use Rattle.std.proofs.Common.{◌≡◌, ℕ, List, Bool, Result, Ok, Err, IfOk, IfErr, refl, sym, subst, inl, inr}
 use Rattle.process_disk.specs.Disk.{Disk, Told, IsHonest, Same}
 use Rattle.process_disk.specs.Images.{AllAsBefore}
 use Rattle.process_disk.proofs.Images.{run_none}
@@ -15,10 +15,10 @@ use Rattle.init_run.specs.Init.{create_refusal, AreMade, AreNotMade, IsCatalogRe
 use Rattle.init_run.proofs.InitParts.{first_of_parts}
 
 -- where a catalog was read
-pub due_of_read : (values : Bool) (before after : Input) (files files_after : Files) (c : Catalog) (line : Said) (found : Result Said Refusal) → IsCatalogRead values before after c → SaysCreated line → IfOk found (λ s. s ≡ line)
-    → IfOk found (λ _. AreMade c files files_after) → IfErr found (λ r. AreNotMade r files files_after) → IsInitDue values before after files files_after found
-due_of_read values before after files files_after c line (Ok s) read says is made refused = (subst SaysCreated (sym is) says, (c, read, made))
-due_of_read values before after files files_after c line (Err r) read says is made refused = first_of_parts values r before after files files_after (inr ((c, read), refused))
+pub due_of_read : (values strict : Bool) (before after : Input) (files files_after : Files) (c : Catalog) (line : Said) (found : Result Said Refusal) → IsCatalogRead values strict before after c → SaysCreated line → IfOk found (λ s. s ≡ line)
+    → IfOk found (λ _. AreMade c files files_after) → IfErr found (λ r. AreNotMade r files files_after) → IsInitDue values strict before after files files_after found
+due_of_read values strict before after files files_after c line (Ok s) read says is made refused = inl (subst SaysCreated (sym is) says, (c, read, made))
+due_of_read values strict before after files files_after c line (Err r) read says is made refused = first_of_parts values strict r before after files files_after (inr ((c, read), refused))
 
 -- nothing was written
 pub untouched : (disk : Disk) → (Told disk → IsHonest disk) → Told disk → AllAsBefore disk disk

@@ -1,3 +1,4 @@
 pub mod FilesMade
 pub mod InitParts
 pub mod MadeWell
+pub mod Strictly

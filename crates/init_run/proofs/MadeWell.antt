@@ -2,7 +2,6 @@
 use Rattle.std.proofs.Common.{◌≡◌, ◌≤◌, ℕ, Bool, true, List, length, Option, Some, None, Ok, Err, refl, sym, ap, subst, ◌∙◌, inl, inr, arith}
 use Rattle.process_flow.specs.Causes.{Rose}
 use Rattle.process_disk.specs.Disk.{Told}
-use Rattle.commute_table.specs.declared.catalog.Catalog.{Catalog}
 use Rattle.commute_table.specs.declared.scenario.Scenario.{Scenario}
 use Rattle.commute_table.specs.declared.errors.ScenarioError.{ScenarioError}
 use Rattle.commute_table.specs.declared.errors.ScenarioError.TheVariants as errors
@@ -18,7 +17,10 @@ use Rattle.command_refusals.specs.Refusals.{refusal_status}
 use Rattle.command_input.specs.Inputs.{Input, most_input, HasNoText}
 use Rattle.command_input.specs.FilesLeft.{Files}
 use Rattle.command_input.specs.Scenarios.{scenario_refusal}
-use Rattle.init_run.specs.Init.{create_refusal, HasCatalog, IsCatalogRefused, IsNotCreated}
+use Rattle.command_input.specs.declared.said.Said.{Said}
+use Rattle.command_input.specs.declared.scenario.NoPlans.TheVariants as none
+use Rattle.command_input.specs.Scenarios.{AreNoGoodPlans}
+use Rattle.init_run.specs.Init.{create_refusal, IsCatalogRefused, IsFree, IsHeldBack, IsNotCreated}
 use Rattle.init_run.proofs.InitParts.{IsRefusedInParts, in_parts}
 
 -- a document says one thing
@@ -54,16 +56,27 @@ no_text_quietly r text faults after (inr (inl fault)) quiet within = absurd (qui
 no_text_quietly r text faults after (inr (inr memory)) quiet within = ap refusal_status memory
 
 -- so a scenario's catalog is read
-not_read_quietly : (values : Bool) (r : Refusal) (text : List ℕ) (faults : ℕ) (after : Input) (c : Catalog) → IsCatalogRefused values r (record { left = Some text; faults = faults }) after → ¬ Rose faults after.faults
-    → length text ≤ most_input → HasCatalog text c → (values ≡ true → IsValueSound c) → refusal_status r ≡ NoMemory
-not_read_quietly values r text faults after c (inl none) quiet within has sound = no_text_quietly r text faults after none quiet within
-not_read_quietly values r text faults after c (inr (bytes, whole, inl refused)) quiet within has sound =
-    let s : Scenario = record { catalog = c; processes = has.0 } in
-    ap refusal_status refused.1 ∙ no_refusal bytes s refused.0 (subst (λ (b : List ℕ). Says b (Ok s)) (sym whole.2) has.1) refused.2
-not_read_quietly values r text faults after c (inr (bytes, whole, inr (t, says, why))) quiet within has sound =
-    let s : Scenario = record { catalog = c; processes = has.0 } in
-    let one : s ≡ t = says_same bytes s t (subst (λ (b : List ℕ). Says b (Ok s)) (sym whole.2) has.1) says in
+not_read_quietly : (values strict : Bool) (r : Refusal) (text : List ℕ) (faults : ℕ) (after : Input) (s : Scenario) → IsCatalogRefused values strict r (record { left = Some text; faults = faults }) after → ¬ Rose faults after.faults
+    → length text ≤ most_input → Says text (Ok s) → (values ≡ true → IsValueSound s.catalog) → (strict ≡ true → IsFree s.catalog s.processes) → refusal_status r ≡ NoMemory
+not_read_quietly values strict r text faults after s (inl none) quiet within has sound free = no_text_quietly r text faults after none quiet within
+not_read_quietly values strict r text faults after s (inr (bytes, whole, inl refused)) quiet within has sound free =
+    ap refusal_status refused.1 ∙ no_refusal bytes s refused.0 (subst (λ (b : List ℕ). Says b (Ok s)) (sym whole.2) has) refused.2
+not_read_quietly values strict r text faults after s (inr (bytes, whole, inr (t, says, inl why))) quiet within has sound free =
+    let one : s ≡ t = says_same bytes s t (subst (λ (b : List ℕ). Says b (Ok s)) (sym whole.2) has) says in
     unsound_memory t.catalog r (subst (λ (u : Scenario). IsValueSound u.catalog) one (sound why.0)) why.1
+not_read_quietly values strict r text faults after s (inr (bytes, whole, inr (t, says, inr (done, passed, why)))) quiet within has sound free =
+    let one : t ≡ s = says_same bytes t s says (subst (λ (b : List ℕ). Says b (Ok s)) (sym whole.2) has) in
+    ap refusal_status ((free why.0).read r (subst (λ (u : Scenario). AreNoGoodPlans u.catalog.ops u.processes (none.Refused r)) one why.1))
+
+-- and nothing is held against it
+pub not_held_quietly : (values strict : Bool) (said : Said) (text : List ℕ) (faults : ℕ) (after : Input) (s : Scenario) → IsHeldBack values strict (record { left = Some text; faults = faults }) after said
+    → Says text (Ok s) → (strict ≡ true → IsFree s.catalog s.processes) → ⊥
+not_held_quietly values strict said text faults after s (bytes, whole, (t, says, sound, (is, inl (plans, good, some, line)))) has free =
+    let one : t ≡ s = says_same text t s (subst (λ (b : List ℕ). Says b (Ok t)) whole.2 says) has in
+    some ((subst (λ (u : Scenario). IsFree u.catalog u.processes) (sym one) (free is)).quiet plans good)
+not_held_quietly values strict said text faults after s (bytes, whole, (t, says, sound, (is, inr (line, ill, same, status)))) has free =
+    let one : t ≡ s = says_same text t s (subst (λ (b : List ℕ). Says b (Ok t)) whole.2 says) has in
+    (free is).formed line (subst (λ (u : Scenario). AreNoGoodPlans u.catalog.ops u.processes (none.IllFormed line)) one ill)
 
 not_made_quietly : (e : CreateError) (before after : ℕ) → IsDueToFiles None e → (e ≡ create.DiskFault → Rose before after) → ¬ Rose before after → refusal_status (create_refusal e) ≡ NoMemory
 not_made_quietly create.DiskFault before after due rose quiet = absurd (quiet (rose refl))
@@ -71,15 +84,15 @@ not_made_quietly (create.NotEmpty q) before after due rose quiet = absurd (cc)
 not_made_quietly create.NoMemory before after due rose quiet = refl
 
 -- the files of a scenario's catalog are made where all are empty, or memory was wanting
-pub not_created_quietly : (values : Bool) (r : Refusal) (text : List ℕ) (faults : ℕ) (after : Input) (files files_after : Files) (c : Catalog)
-    → IsNotCreated values r (record { left = Some text; faults = faults }) after files files_after
-    → ¬ Rose faults after.faults → ¬ Rose files.faults files_after.faults → length text ≤ most_input → HasCatalog text c → (values ≡ true → IsValueSound c) → Told files.disk
-    → first_used files.disk.files ≡ None → refusal_status r ≡ NoMemory
-not_created_quietly values r text faults after files files_after c not_created quiet quiet_files within has sound told empty =
-    by_part (in_parts values r (record { left = Some text; faults = faults }) after files files_after not_created)
+pub not_created_quietly : (values strict : Bool) (r : Refusal) (text : List ℕ) (faults : ℕ) (after : Input) (files files_after : Files) (s : Scenario)
+    → IsNotCreated values strict r (record { left = Some text; faults = faults }) after files files_after
+    → ¬ Rose faults after.faults → ¬ Rose files.faults files_after.faults → length text ≤ most_input → Says text (Ok s) → (values ≡ true → IsValueSound s.catalog)
+    → (strict ≡ true → IsFree s.catalog s.processes) → Told files.disk → first_used files.disk.files ≡ None → refusal_status r ≡ NoMemory
+not_created_quietly values strict r text faults after files files_after s not_created quiet quiet_files within has sound free told empty =
+    by_part (in_parts values strict r (record { left = Some text; faults = faults }) after files files_after not_created)
   where
-    by_part : IsRefusedInParts values r (record { left = Some text; faults = faults }) after files files_after → refusal_status r ≡ NoMemory
-    by_part (inl why) = not_read_quietly values r text faults after c why.0 quiet within has sound
+    by_part : IsRefusedInParts values strict r (record { left = Some text; faults = faults }) after files files_after → refusal_status r ≡ NoMemory
+    by_part (inl why) = not_read_quietly values strict r text faults after s why.0 quiet within has sound free
     by_part (inr why) =
         let made = why.1 in
         ap refusal_status made.1 ∙ not_made_quietly made.0 files.faults files_after.faults (subst (λ (found : Option ℕ). IsDueToFiles found made.0) empty (made.2 told)) made.4 quiet_files

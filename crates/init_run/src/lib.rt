@@ -3,5 +3,6 @@
 #![tactic(auto)]
 
 mod creating;
+mod strict;
 
 pub use creating::{create_refusal, init};

@@ -25,12 +25,55 @@ fn words_of(rt: &impl Abort, alloc: Global, line: &str) -> Vec<String> {
 }
 
 // Lines, and what is asked for.
-const COMMANDS: [(&str, Result<Command, WordsError>); 69] = [
+const COMMANDS: [(&str, Result<Command, WordsError>); 76] = [
     ("check", Ok(Command::Check)),
-    ("init", Ok(Command::Init { values: false })),
-    ("init --values", Ok(Command::Init { values: true })),
-    ("init --values --", Ok(Command::Init { values: true })),
-    ("init --", Ok(Command::Init { values: false })),
+    ("expand", Ok(Command::Expand)),
+    ("expand --", Ok(Command::Expand)),
+    ("expand --strict", Err(WordsError::BadWords)),
+    ("check --strict", Err(WordsError::BadWords)),
+    (
+        "init",
+        Ok(Command::Init {
+            values: false,
+            strict: false,
+        }),
+    ),
+    (
+        "init --values",
+        Ok(Command::Init {
+            values: true,
+            strict: false,
+        }),
+    ),
+    (
+        "init --values --",
+        Ok(Command::Init {
+            values: true,
+            strict: false,
+        }),
+    ),
+    (
+        "init --strict",
+        Ok(Command::Init {
+            values: false,
+            strict: true,
+        }),
+    ),
+    (
+        "init --strict --values",
+        Ok(Command::Init {
+            values: true,
+            strict: true,
+        }),
+    ),
+    ("init --strict --strict", Err(WordsError::BadWords)),
+    (
+        "init --",
+        Ok(Command::Init {
+            values: false,
+            strict: false,
+        }),
+    ),
     ("init values", Err(WordsError::BadWords)),
     ("init --values --values", Err(WordsError::BadWords)),
     ("init --values=true", Err(WordsError::BadWords)),

@@ -17,7 +17,7 @@ use Rattle.machine_model.specs.declared.kept.Work.TheVariants.{Forward, Undo, En
 use Rattle.machine_model.specs.Progress.{Progress, above, is_only_try}
 use Rattle.machine_model.specs.Moment.{Moment, Piece, noted, happened, has_begun}
 use Rattle.machine_model.specs.Pieces.{hands, piece_of, refused_pieces}
-use Rattle.machine_model.specs.State.{progress, refused_steps}
+use Rattle.machine_model.specs.State.{progress, refused_before, refused_steps}
 use Rattle.machine_model.specs.Advance.{event_of, with_piece}
 use Rattle.machine_model.specs.PieceLaws.{piece_ended}
 use Rattle.machine_model.specs.Runs.{may_be_kept, is_no_end}
@@ -77,8 +77,8 @@ IsOfOthers ks k i = (p : Piece) → piece_ended ks k ≡ Some p → eqb p.proces
 
 module _ (table : ConflictRelation) (courses : List Course) where
   by_kept : (ks : List Kept) (m : Moment) (i : ℕ) → refused_pieces ks ≡ refused_pieces m.kept
-      → map (λ (p : Piece). p.step) (filter (λ (p : Piece). eqb p.process i && is_only_try (shape courses i) p.step p.work) (refused_pieces ks)) ≡ refused_steps courses m i
-  by_kept ks m i same = ap (λ ps. map (λ (p : Piece). p.step) (filter (λ (p : Piece). eqb p.process i && is_only_try (shape courses i) p.step p.work) ps)) same
+      → refused_before m i ++ map (λ (p : Piece). p.step) (filter (λ (p : Piece). eqb p.process i && is_only_try (shape courses i) p.step p.work) (refused_pieces ks)) ≡ refused_steps courses m i
+  by_kept ks m i same = ap (λ ps. refused_before m i ++ map (λ (p : Piece). p.step) (filter (λ (p : Piece). eqb p.process i && is_only_try (shape courses i) p.step p.work) ps)) same
 
   perhaps : (m : Moment) (i : ℕ) (o : Option Piece) → ((p : Piece) → o ≡ Some p → eqb p.process i ≡ false) → SameFor (with_piece (λ p. happened m (event_of courses p)) m o).events m.events i
   perhaps m i None away = same_history m.events i
@@ -95,7 +95,7 @@ module _ (table : ConflictRelation) (courses : List Course) where
   refused_by : (m : Moment) (n i : ℕ) (o : Option Piece) → Counted m → may_be_kept table courses m (Refuse n) ≡ true → piece_of m.kept n ≡ o → ((p : Piece) → o ≡ Some p → eqb p.process i ≡ false)
       → refused_steps courses (noted m (Refuse n)) i ≡ refused_steps courses m i
   refused_by m n i None c may found away = absurd (false≢true (sym (ap is_no_end found) ∙ (and_parts _ _ may).1))
-  refused_by m n i (Some p) c may found away = ap (map (λ (q : Piece). q.step))
+  refused_by m n i (Some p) c may found away = ap (λ ps. refused_before m i ++ map (λ (q : Piece). q.step) ps)
       (refused-others m n i p (λ q. eqb q.process i && is_only_try (shape courses i) q.step q.work) c found (away p refl) (λ q other. and_left _ _ other))
 
   -- before anybody begins to complete, an event leaves the progress of the processes whose piece it doesn't end

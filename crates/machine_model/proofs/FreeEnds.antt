@@ -41,7 +41,7 @@ module _ (table : ConflictRelation) (symmetric : IsSymmetric table) (plans : Lis
       conflict-flipped table symmetric x y
       (facts.free x y one.0 x_goes (among_behind x y (net m.events) back') (ap (is_active m.events) its ∙ goes) (ap (λ j. has_step y (backward_entries cs m.events j)) its ∙ ap (has_step y) none) back')
 
-  end_unblocked : (i : ℕ) → is_active m.events i ≡ true → (next_of cs m i).work ≡ End → backward_entries cs m.events i ≡ [] → block_of table cs m i ≡ None
+  pub end_unblocked : (i : ℕ) → is_active m.events i ≡ true → (next_of cs m i).work ≡ End → backward_entries cs m.events i ≡ [] → block_of table cs m i ≡ None
   end_unblocked i goes work none =
       let t = next_of cs m i in
       let clear = clear-from_nothing (against_end table g i) (record { a0 = refl; a1 = refl; a2 = refl; a3 = front-none table g i (front_apart i goes none); a4 = refl; a5 = refl }) in

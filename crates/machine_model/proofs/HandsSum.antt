@@ -82,7 +82,7 @@ module _ (courses : List Course) (i : ℕ) where
         omega arith
 
     -- of the process no more than it can take
-    process_bound : Each (λ (p : Piece). Belongs courses p.process p.step p.work) hs → count (is_of i) ls ≤ 1 → count (is_of i) hs ≤ pieces_for courses i
+    pub process_bound : Each (λ (p : Piece). Belongs courses p.process p.step p.work) hs → count (is_of i) ls ≤ 1 → count (is_of i) hs ≤ pieces_for courses i
     process_bound own one =
         let least = all_least i steps may_undo hs (Each-weaker (λ (p : Piece). Belongs courses p.process p.step p.work) (λ p. eqb p.process i ≡ true → IsCounted i steps may_undo p.step p.work) counted hs own) in
         let each = sum-most (all_at i steps may_undo hs) (λ b. pieces_for_step courses i b + all_at i steps may_undo ls b) (numbers_from 0 steps) (λ b among. step_bound b (kind_of (shape courses i) b) refl) in
@@ -93,12 +93,12 @@ module _ (courses : List Course) (i : ℕ) where
 
 module _ (table : ConflictRelation) (plans : List Plan) (good : AreGood plans) where
   -- each piece is of a process that started, and belongs to it
-  record PiecesStand (m : Moment) : Type 0 where
-    own : InOwnOrder table plans good m
-    started : AreStarted m
-    belong : AllBelong table plans good m
+  pub record PiecesStand (m : Moment) : Type 0 where
+    pub own : InOwnOrder table plans good m
+    pub started : AreStarted m
+    pub belong : AllBelong table plans good m
 
-  advance-stand : (m : Moment) (k : Kept) → PiecesStand m → may_be_kept table (courses_of plans) m k ≡ true → PiecesStand (advance table (courses_of plans) m k)
+  pub advance-stand : (m : Moment) (k : Kept) → PiecesStand m → may_be_kept table (courses_of plans) m k ≡ true → PiecesStand (advance table (courses_of plans) m k)
   advance-stand m k stand may = record {
     own = advance-own_order table plans good m k stand.own may;
     started = advance-started table (courses_of plans) m k stand.started may;

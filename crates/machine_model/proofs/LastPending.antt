@@ -1,5 +1,6 @@
 -- Where the machine opened at rest, or all have begun to complete, the undo of the last pending entry in joint order is never blocked.
 use Rattle.std.proofs.Common.{◌≡◌, ◌⊎◌, inl, inr, ℕ, Bool, true, false, not, cond, eqb, ◌&&◌, List, [], ◌∷◌, ◌++◌, map, filter, take, length, Some, None, sym, refl, ap, subst, ◌∙◌, append_assoc}
+use Rattle.std.specs.Bool.{IsTrue}
 use Rattle.std.specs.List.{list_any, All, Contains}
 use Rattle.std.specs.Option.{option_or}
 use Rattle.std.proofs.lemmas.Option.{none-some, same_Some}
@@ -14,6 +15,7 @@ use Rattle.schedule_model.specs.Course.{Course, courses_of}
 use Rattle.schedule_model.specs.Conflict.{ConflictRelation, conflict, no_conflict}
 use Rattle.schedule_model.specs.Histories.{active, acts, doing, is_active, net, net_of, same_step, steps_of}
 use Rattle.schedule_model.specs.Holdings.{behind}
+use Rattle.schedule_model.specs.Legal.{is_legal}
 use Rattle.schedule_model.specs.Blocking.{against_undo, all_clashes}
 use Rattle.schedule_model.proofs.Apart.{Apart, Apart-filter, Apart-last, net-apart}
 use Rattle.schedule_model.proofs.Behind.{behind-filter, behind-split, has_step, same_step-itself, same_step-symmetric}
@@ -25,12 +27,11 @@ use Rattle.machine_model.specs.declared.kept.Work.TheVariants.{Undo}
 use Rattle.machine_model.specs.Progress.{Task, next_forward, staying, undo_or}
 use Rattle.machine_model.specs.Moment.{Moment}
 use Rattle.machine_model.specs.State.{against_work, block_of, holdings, is_pending, next_of, pending_in_order, pending_of, progress, undo_next}
-use Rattle.machine_model.specs.Advance.{Machine}
 use Rattle.machine_model.specs.Runs.{now}
-use Rattle.machine_model.specs.Laws.{IsSession, LastPendingIsFree, OpenedAtRest}
+use Rattle.machine_model.specs.Laws.{LastPendingIsFree}
 use Rattle.machine_model.proofs.Clear.{clear-none}
 use Rattle.machine_model.proofs.LastElements.{Each-drop, Each-last, HasEnd, all_pass, any_last, has_end, last_of-push, same_end}
-use Rattle.machine_model.proofs.PendingClosed.{ClosedFacts, rested, session-pending_closed}
+use Rattle.machine_model.proofs.PendingClosed.{rested, session-pending_closed}
 use Rattle.machine_model.proofs.Restart.{and_swap, run-of_plans}
 use Rattle.machine_model.proofs.RestartFree.{restart_is_free}
 
@@ -120,32 +121,30 @@ module _ (courses : List Course) (m : Moment) (front : List Entry) (x : Entry) (
           let before = Apart-last front x (subst Apart is (Apart-filter (is_pending courses m) (net m.events) apart)) in
           not_any (same_step x) front (λ f f_in. same_step-symmetric x f ∙ not-false (same_step f x) (all-among (λ (g : Entry). not (same_step g x)) front before f f_in))
 
-module _ (table : ConflictRelation) (plans : List Plan) (s : Machine) (session : IsSession table plans s) where
+-- what stands behind a pending entry and conflicts with it is pending
+abbrev pub IsPendingClosed : ConflictRelation → List Course → Moment → Type 0
+IsPendingClosed table courses m = (x e : Entry) → is_active m.events x.process ≡ true → Among x (pending_of courses m x.process) → Among e (behind x (net m.events)) → conflict table x e ≡ true → is_pending courses m e ≡ true
+
+module _ (table : ConflictRelation) (plans : List Plan) (m : Moment) (ordered : IsTrue (is_legal no_conflict (courses_of plans) m.events)) (of_plans : All (HasPlansAccess (courses_of plans)) (acts m.events))
+    (closed : IsPendingClosed table (courses_of plans) m) where
   abbrev cs : List Course
   cs = courses_of plans
 
-  abbrev m : Moment
-  m = now table s
-
-  at_rest : OpenedAtRest s → (front : List Entry) (x : Entry) → pending_in_order cs m ≡ front ++ x ∷ [] → block_of table cs m x.process ≡ None
-  at_rest opened front x is =
+  at_rest : (front : List Entry) (x : Entry) → pending_in_order cs m ≡ front ++ x ∷ [] → block_of table cs m x.process ≡ None
+  at_rest front x is =
       let g = holdings cs m in
       let free = clear-from_nothing (against_undo table g x) (record { a0 = refl; a1 = refl; a2 = refl; a3 = refl; a4 = refl; a5 = against-none table x (behind x (net m.events)) (λ e back. apart e back (conflict table x e) refl) }) in
       clear-none (against_work table cs g m.events x.process (next_of cs m x.process).step (next_of cs m x.process).work)
       (ap (λ (t : Task). length (all_clashes (against_work table cs g m.events x.process t.step t.work))) (next cs m front x is)
       ∙ (ap (λ y. length (all_clashes (against_undo table g y))) (sym step) ∙ eqb-true (length (all_clashes (against_undo table g x))) 0 free))
     where
-      facts : ClosedFacts table session.symmetric plans session.good s.opening (now table s)
-      facts = session-pending_closed table plans s session
-
-      x_in : Contains (net (now table s).events) x
-      x_in = contains-from_among x (net (now table s).events) (there cs m front x is)
+      x_in : Contains (net m.events) x
+      x_in = contains-from_among x (net m.events) (there cs m front x is)
 
       step : x ≡ doing cs x.process x.step
       step =
           doing-is cs x
-          (All-contains (HasPlansAccess cs) (net m.events) x
-          (All-net_acts (HasPlansAccess cs) (acts m.events) (subst (λ xs. All (HasPlansAccess xs) (acts m.events)) session.courses (run-of_plans table s session.run (acts-of_plans table s.courses s.opening session.legal)))) x_in)
+          (All-contains (HasPlansAccess cs) (net m.events) x (All-net_acts (HasPlansAccess cs) (acts m.events) of_plans) x_in)
           (All-contains (λ (e : Entry). e.undo ≡ false) (net m.events) x (net_acts-forward (acts m.events)) x_in)
 
       its_pending : Among x (pending_of cs m x.process)
@@ -159,18 +158,23 @@ module _ (table : ConflictRelation) (plans : List Plan) (s : Machine) (session :
       apart : (e : Entry) → Among e (behind x (net m.events)) → (t : Bool) → conflict table x e ≡ t → conflict table x e ≡ false
       apart e back false none = none
       apart e back true conflicts =
-          absurd (none_behind cs m front x is (net-apart no_conflict cs m.events facts.fixed.reserved.own.legal) e back (facts.closed (rested table s opened) x e (goes cs m front x is) its_pending back conflicts))
+          absurd (none_behind cs m front x is (net-apart no_conflict cs m.events ordered) e back (closed x e (goes cs m front x is) its_pending back conflicts))
+
+  -- so the undo of the last pending entry is free
+  pub last_free : (i : ℕ) → undo_next cs m ≡ Some i → block_of table cs m i ≡ None
+  last_free i turn = by_end (has_end (pending_in_order cs m))
+    where
+      by_end : (pending_in_order cs m ≡ []) ⊎ HasEnd (pending_in_order cs m) → block_of table cs m i ≡ None
+      by_end (inl none) = absurd (none-some i (sym (ap (λ es. last_of (map (λ (e : Entry). e.process) es)) none) ∙ turn))
+      by_end (inr ends) =
+          let last = ap last_of (ap (map (λ (e : Entry). e.process)) ends.is ∙ map-append (λ (e : Entry). e.process) ends.front (ends.last ∷ [])) ∙ last_of-push (map (λ (e : Entry). e.process) ends.front) ends.last.process in
+          subst (λ j. block_of table cs m j ≡ None) (same_Some ends.last.process i (sym last ∙ turn)) (at_rest ends.front ends.last ends.is)
 
 pub last_pending_is_free : LastPendingIsFree
 last_pending_is_free table plans s session i (inr all) next' = restart_is_free table plans s session all i (ap (λ o. option_or o (first_of (active (now table s).events))) next')
 last_pending_is_free table plans s session i (inl opened) next' =
-    ap (λ xs. block_of table xs (now table s) i) session.courses ∙ by_end (has_end (pending_in_order (courses_of plans) (now table s)))
-  where
-    turn : undo_next (courses_of plans) (now table s) ≡ Some i
-    turn = ap (λ xs. undo_next xs (now table s)) (sym session.courses) ∙ next'
-
-    by_end : (pending_in_order (courses_of plans) (now table s) ≡ []) ⊎ HasEnd (pending_in_order (courses_of plans) (now table s)) → block_of table (courses_of plans) (now table s) i ≡ None
-    by_end (inl none) = absurd (none-some i (sym (ap (λ es. last_of (map (λ (e : Entry). e.process) es)) none) ∙ turn))
-    by_end (inr ends) =
-        let last = ap last_of (ap (map (λ (e : Entry). e.process)) ends.is ∙ map-append (λ (e : Entry). e.process) ends.front (ends.last ∷ [])) ∙ last_of-push (map (λ (e : Entry). e.process) ends.front) ends.last.process in
-        subst (λ j. block_of table (courses_of plans) (now table s) j ≡ None) (same_Some ends.last.process i (sym last ∙ turn)) (at_rest table plans s session opened ends.front ends.last ends.is)
+    let facts = session-pending_closed table plans s session in
+    ap (λ xs. block_of table xs (now table s) i) session.courses
+    ∙ last_free table plans (now table s) facts.fixed.reserved.own.legal
+    (subst (λ xs. All (HasPlansAccess xs) (acts (now table s).events)) session.courses (run-of_plans table s session.run (acts-of_plans table s.courses s.opening session.legal)))
+    (facts.closed (rested table s opened)) i (ap (λ xs. undo_next xs (now table s)) (sym session.courses) ∙ next')

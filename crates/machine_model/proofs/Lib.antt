@@ -9,6 +9,7 @@ pub mod Stuck
 pub mod OneOut
 pub mod TidyMoments
 pub mod RefusedPieces
+pub mod RefusedBefore
 pub mod Frames
 pub mod Least
 pub mod Cascades
@@ -19,6 +20,7 @@ pub mod RunningNext
 pub mod OthersStay
 pub mod OwnEvents
 pub mod Dropped
+mod DroppedPieces
 pub mod LastElements
 pub mod OpenCascade
 pub mod MachineCourses

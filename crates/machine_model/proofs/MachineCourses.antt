@@ -27,7 +27,7 @@ use Rattle.machine_model.specs.Progress.{Progress, Task, above, is_only_try, nex
 use Rattle.machine_model.specs.ProcessState.{has_used_up}
 use Rattle.machine_model.specs.Moment.{Moment, Piece, begins, all_begin, has_begun}
 use Rattle.machine_model.specs.Pieces.{refusals, refused_pieces, running_of}
-use Rattle.machine_model.specs.State.{against_work, block_of, entry_by, entry_of, hold_of, holdings, is_blocked, is_exhausted, is_free, is_stalled, next_of, owed_by_class, owed_by_work, owed_soon, pending_of, process_state, progress, victim_of}
+use Rattle.machine_model.specs.State.{against_work, block_of, entry_by, entry_of, hold_of, holdings, is_blocked, is_exhausted, is_free, is_stalled, next_of, owed_by_class, owed_by_work, owed_soon, pending_of, process_state, progress, refused_before, victim_of}
 use Rattle.machine_model.specs.Advance.{drag_along, goes_back, step_refused, work_refused, event_by}
 use Rattle.machine_model.proofs.CallsKept.{find-passes}
 use Rattle.machine_model.proofs.Snoc.{begins-still}
@@ -48,7 +48,7 @@ module _ (cs ds : List Course) (m : Moment) where
   progress-courses i same = ap (λ (c : Course). record {
     shape = c.shape;
     net = net_steps m.events i;
-    onward = above (done_steps m.events i ++ map (λ (p : Piece). p.step) (filter (λ (p : Piece). eqb p.process i && is_only_try c.shape p.step p.work) (refused_pieces m.kept)));
+    onward = above (done_steps m.events i ++ (refused_before m i ++ map (λ (p : Piece). p.step) (filter (λ (p : Piece). eqb p.process i && is_only_try c.shape p.step p.work) (refused_pieces m.kept))));
     begun = has_begun m i;
   }) same
 

@@ -26,11 +26,11 @@ abbrev is_of : ℕ → Piece → Bool
 is_of i p = eqb p.process i
 
 -- a lost piece of process i
-abbrev lost_of : ℕ → Lost → Bool
+abbrev pub lost_of : ℕ → Lost → Bool
 lost_of i l = eqb l.piece.process i
 
 -- at most one piece of a process is lost, and none before it has begun to complete
-record OneLost (m : Moment) : Type 0 where
+pub record OneLost (m : Moment) : Type 0 where
   pub out : OneOut m
   pub one : (i : ℕ) → count (lost_of i) m.lost ≤ 1
   pub none : (i : ℕ) → has_begun m i ≡ false → count (lost_of i) m.lost ≡ 0
@@ -96,7 +96,7 @@ module _ (table : ConflictRelation) (courses : List Course) where
   entered-lost m (Victim i) c out = record { out = out; one = c.one; none = c.none }
   entered-lost m Restart c out = record { out = out; one = c.one; none = c.none }
 
-  advance-lost : (m : Moment) (k : Kept) → OneLost m → may_be_kept table courses m k ≡ true → OneLost (advance table courses m k)
+  pub advance-lost : (m : Moment) (k : Kept) → OneLost m → may_be_kept table courses m k ≡ true → OneLost (advance table courses m k)
   advance-lost m k c may = advance-keeps OneLost beginnings-lost table courses m k (entered-lost m k c (entered-one table courses m k c.out may))
 
 pub one_is_dropped : OneIsDropped

@@ -20,9 +20,9 @@ use Rattle.machine_model.specs.declared.kept.Work.{Work}
 use Rattle.machine_model.specs.declared.kept.Work.TheVariants.{Forward, Undo, End}
 use Rattle.machine_model.specs.Progress.{Progress, next_task, same_work, staying, is_only_try}
 use Rattle.machine_model.specs.ProcessState.{ProcessState}
-use Rattle.machine_model.specs.Moment.{Moment, Piece, noted, happened, has_begun, begins_now}
+use Rattle.machine_model.specs.Moment.{Moment, Piece, RefusedStep, noted, happened, has_begun, begins_now}
 use Rattle.machine_model.specs.Pieces.{hands, piece_of, refusals, refused_pieces, is_refusal, is_try_of, running_of}
-use Rattle.machine_model.specs.State.{progress, process_state, next_of, hold_of, entry_of, owed_soon, owed_by_work, owed_by_class, pending_of}
+use Rattle.machine_model.specs.State.{progress, process_state, refused_before, refused_steps, next_of, hold_of, entry_of, owed_soon, owed_by_work, owed_by_class, pending_of}
 use Rattle.machine_model.specs.Advance.{advance, with_piece, event_of}
 use Rattle.machine_model.specs.PieceLaws.{LeavesPieceOf, OthersStay, piece_touched}
 use Rattle.machine_model.specs.Runs.{now, may_be_kept, is_no_end}
@@ -58,6 +58,7 @@ or_none (Some x) = refl
 pub record StaysFor (courses : List Course) (m n : Moment) (i : ℕ) : Type 0 where
   pub history : SameFor n.events m.events i
   pub refused : (r : Piece → Bool) → ((q : Piece) → eqb q.process i ≡ false → r q ≡ false) → filter r (refused_pieces n.kept) ≡ filter r (refused_pieces m.kept)
+  pub before : n.refused ≡ m.refused
   pub begun : has_begun m i ≡ true → has_begun n i ≡ true
   pub running : has_begun n i ≡ has_begun m i → running_of n i ≡ running_of m i
 
@@ -69,6 +70,7 @@ module _ (table : ConflictRelation) (courses : List Course) (m : Moment) (i : �
   stays-beginnings cause n k never stays = record {
     history = stays.history;
     refused = stays.refused;
+    before = stays.before;
     begun = λ is. begins_now-has cause n k i ∙ or_left (has_begun n i) (eqb k i) (stays.begun is);
     running = λ same. by_process (eqb k i) refl (sym (begins_now-has cause n k i) ∙ same);
   }
@@ -91,10 +93,11 @@ module _ (table : ConflictRelation) (courses : List Course) (m : Moment) (i : �
   same_refused ks same r others = ap (filter r) same
 
   -- an event that touches no piece
-  untouched : (k : Kept) (n : Moment) → SameFor n.events m.events i → n.kept ≡ m.kept ++ k ∷ [] → n.out ≡ m.out → n.beginnings ≡ m.beginnings → hands (k ∷ []) ≡ [] → ((x : ℕ) → is_refusal x k ≡ false) → Stays n
-  untouched k n history kept out beginnings none never = record {
+  untouched : (k : Kept) (n : Moment) → SameFor n.events m.events i → n.kept ≡ m.kept ++ k ∷ [] → n.out ≡ m.out → n.beginnings ≡ m.beginnings → n.refused ≡ m.refused → hands (k ∷ []) ≡ [] → ((x : ℕ) → is_refusal x k ≡ false) → Stays n
+  untouched k n history kept out beginnings before none never = record {
     history = history;
     refused = λ r others. ap (λ ks. filter r (refused_pieces ks)) kept ∙ same_refused (m.kept ++ k ∷ []) (refused-plain m.kept k none never) r others;
+    before = before;
     begun = λ is. ap (λ bs. is_some (find (λ b. eqb b.process i) bs)) beginnings ∙ is;
     running = λ same. ap (find (λ p. eqb p.process i)) out;
   }
@@ -124,13 +127,17 @@ module _ (table : ConflictRelation) (courses : List Course) (m : Moment) (i : �
   effect_beginnings n None = refl
   effect_beginnings n (Some p) = refl
 
+  effect_before : (n : Moment) (o : Option Piece) → (with_piece (λ p. happened n (event_of courses p)) n o).refused ≡ n.refused
+  effect_before n None = refl
+  effect_before n (Some p) = refl
+
   refuse_by : (n : ℕ) (o : Option Piece) → Counted m → may_be_kept table courses m (Refuse n) ≡ true → piece_of m.kept n ≡ o → ((p : Piece) → o ≡ Some p → eqb p.process i ≡ false)
       → (r : Piece → Bool) → ((q : Piece) → eqb q.process i ≡ false → r q ≡ false) → filter r (refused_pieces (m.kept ++ Refuse n ∷ [])) ≡ filter r (refused_pieces m.kept)
   refuse_by n None c may found away r others = absurd (false≢true (sym (ap is_no_end found) ∙ (and_parts _ _ may).1))
   refuse_by n (Some p) c may found away r others = refused-others m n i p r c found (away p refl) others
 
   pub entered-stays : (k : Kept) → Tidy m → may_be_kept table courses m k ≡ true → LeavesPieceOf m.kept k i → Stays (entered courses m k)
-  entered-stays (Start j) tidy may away = untouched (Start j) _ (start-leaves m.events j i) refl refl refl refl (λ x. refl)
+  entered-stays (Start j) tidy may away = untouched (Start j) _ (start-leaves m.events j i) refl refl refl refl refl (λ x. refl)
   entered-stays (Hand piece process step work) tidy may away =
       let p : Piece = record { number = piece; process = process; step = step; work = work } in
       let next = (hand_parts table courses m p may).number in
@@ -138,6 +145,7 @@ module _ (table : ConflictRelation) (courses : List Course) (m : Moment) (i : �
       record {
         history = same_history m.events i;
         refused = same_refused (m.kept ++ Hand piece process step work ∷ []) (refused-hand m.kept p (unhanded-unrefused m piece tidy.counted new));
+        before = refl;
         begun = λ is. is;
         running = λ same. find-append (λ q. eqb q.process i) m.out (p ∷ []) ∙ (ap (λ t. option_or (running_of m i) (cond t (Some p) None)) (away p refl) ∙ or_none (running_of m i));
       }
@@ -147,27 +155,36 @@ module _ (table : ConflictRelation) (courses : List Course) (m : Moment) (i : �
       record {
         history = effect_by (noted m (Effect n)) o at;
         refused = λ r others. ap (λ ks. filter r (refused_pieces ks)) (effect_kept (noted m (Effect n)) o) ∙ same_refused (m.kept ++ Effect n ∷ []) (refused-plain m.kept (Effect n) refl (λ x. refl)) r others;
+        before = effect_before (noted m (Effect n)) o;
         begun = λ is. ap (λ bs. is_some (find (λ b. eqb b.process i) bs)) (effect_beginnings (noted m (Effect n)) o) ∙ is;
         running = λ same. ap (find (λ p. eqb p.process i)) (effect_out (noted m (Effect n)) o) ∙ find-filter (λ p. eqb p.process i) (λ p. not (eqb p.number n)) m.out (out_others n tidy away);
       }
   entered-stays (Refuse n) tidy may away = record {
     history = same_history m.events i;
     refused = refuse_by n (piece_of m.kept n) tidy.counted may refl away;
+    before = refl;
     begun = λ is. is;
     running = λ same. find-filter (λ p. eqb p.process i) (λ p. not (eqb p.number n)) m.out (out_others n tidy away);
   }
-  entered-stays (Abort j) tidy may away = untouched (Abort j) _ (same_history m.events i) refl refl refl refl (λ x. refl)
-  entered-stays (Victim j) tidy may away = untouched (Victim j) _ (same_history m.events i) refl refl refl refl (λ x. refl)
-  entered-stays Restart tidy may away = untouched Restart _ (same_history m.events i) refl refl refl refl (λ x. refl)
+  entered-stays (Abort j) tidy may away = untouched (Abort j) _ (same_history m.events i) refl refl refl refl refl (λ x. refl)
+  entered-stays (Victim j) tidy may away = untouched (Victim j) _ (same_history m.events i) refl refl refl refl refl (λ x. refl)
+  entered-stays Restart tidy may away = untouched Restart _ (same_history m.events i) refl refl refl refl refl (λ x. refl)
 
   pub advance-stays : (k : Kept) → Tidy m → may_be_kept table courses m k ≡ true → LeavesPieceOf m.kept k i → Stays (advance table courses m k)
   advance-stays k tidy may away = advance-keeps Stays stays-beginnings table courses m k (entered-stays k tidy may away)
+
+-- the refused steps stay
+pub stays-refused : (courses : List Course) (m n : Moment) (i : ℕ) → StaysFor courses m n i → refused_steps courses n i ≡ refused_steps courses m i
+stays-refused courses m n i stays =
+    ap (λ rs. map (λ (r : RefusedStep). r.step) (filter (λ r. eqb r.process i) rs)
+    ++ map (λ (p : Piece). p.step) (filter (λ p. eqb p.process i && is_only_try (shape courses i) p.step p.work) (refused_pieces n.kept))) stays.before
+    ∙ ap (λ ps. refused_before m i ++ map (λ (p : Piece). p.step) ps) (stays.refused (λ p. eqb p.process i && is_only_try (shape courses i) p.step p.work) (λ q other. and_left _ _ other))
 
 -- What stays of a process where its history, its refusals and its beginning stay.
 module _ (courses : List Course) (m n : Moment) (i : ℕ) (stays : StaysFor courses m n i) (begun : has_begun n i ≡ has_begun m i) where
   pub stays-progress : progress courses n i ≡ progress courses m i
   stays-progress = same_progress courses m n i stays.history
-      (ap (map (λ (p : Piece). p.step)) (stays.refused (λ p. eqb p.process i && is_only_try (shape courses i) p.step p.work) (λ q other. and_left _ _ other))) begun
+      (stays-refused courses m n i stays) begun
 
   stays-refusals : (step : ℕ) (work : Work) → refusals n.kept i step work ≡ refusals m.kept i step work
   stays-refusals step work = ap length (stays.refused (is_try_of i step work) (λ q other. and_left (eqb q.process i && eqb q.step step) (same_work q.work work) (and_left (eqb q.process i) (eqb q.step step) other)))

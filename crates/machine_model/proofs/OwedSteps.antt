@@ -103,7 +103,7 @@ module _ (table : ConflictRelation) (symmetric : IsSymmetric table) (plans : Lis
             facts.free i own.0 r x goes own.1 owes (inl (inl (subst (Among x) (take-append-drop n es) (among-right x (take n es) (drop n es) (subst (λ (o : Hold). Among x o.pending) (sym own.2) found.2)))))
 
   -- so a step that is owed isn't blocked
-  owed_unblocked : (i : ℕ) → is_active m.events i ≡ true → (next_of cs m i).work ≡ Forward → class_in cs m.events i (next_of cs m i).step ≡ reserved → block_of table cs m i ≡ None
+  pub owed_unblocked : (i : ℕ) → is_active m.events i ≡ true → (next_of cs m i).work ≡ Forward → class_in cs m.events i (next_of cs m i).step ≡ reserved → block_of table cs m i ≡ None
   owed_unblocked i goes work class =
       let t = next_of cs m i in
       let b = t.step in

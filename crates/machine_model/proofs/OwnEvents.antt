@@ -3,7 +3,7 @@ use Rattle.std.proofs.Common.{◌≡◌, ℕ, ◌+◌, ◌-◌, max, Bool, true,
 use Rattle.std.proofs.Math.Bool.{or-false}
 use Rattle.std.specs.List.{list_any}
 use Rattle.std.proofs.lemmas.Option.{none-some, same_Some}
-use Rattle.std.proofs.lemmas.Bool.{and_left, and_right, or_right, eqb-true, eq-eqb, false≢true, not_from_true}
+use Rattle.std.proofs.lemmas.Bool.{and_right, or_right, eqb-true, eq-eqb, false≢true, not_from_true}
 use Rattle.process_tree.specs.Order.{Each}
 use Rattle.process_tree.proofs.Every.{Each-weaker}
 use Rattle.schedule_model.specs.Course.{Course, shape}
@@ -20,8 +20,8 @@ use Rattle.machine_model.specs.declared.began.Cause.TheVariants.{Cascade, Refuse
 use Rattle.machine_model.specs.Progress.{Progress, above, is_only_try, way_on}
 use Rattle.machine_model.specs.ProcessState.{work_done, step_done, past, completing, complete_unless_on}
 use Rattle.machine_model.specs.Moment.{Moment, Piece, noted, happened, has_begun, begins, begins_now}
-use Rattle.machine_model.specs.Pieces.{hands, piece_of, is_refusal}
-use Rattle.machine_model.specs.State.{progress, refused_steps}
+use Rattle.machine_model.specs.Pieces.{hands, piece_of, is_refusal, refused_pieces}
+use Rattle.machine_model.specs.State.{progress, refused_before, refused_steps}
 use Rattle.machine_model.specs.Advance.{advance, with_piece, event_of, drag_along, cascade_of, step_refused, work_refused, piece_refused}
 use Rattle.machine_model.specs.Runs.{now, may_be_kept}
 use Rattle.machine_model.specs.PieceLaws.{ProgressGoesByTransitions, RefusedBeginsWithoutWayOn, IsUndoOf, piece_ended, progress_by_piece, with_begun}
@@ -33,7 +33,7 @@ use Rattle.machine_model.proofs.PieceCounts.{Counted, is_number}
 use Rattle.machine_model.proofs.RefusedPieces.{refused-plain, refused-more, refused_with, refused-other, only_found}
 use Rattle.machine_model.proofs.TidyMoments.{run-tidy}
 use Rattle.machine_model.proofs.Frames.{end-leaves, entered-leaves, piece_of-plain}
-use Rattle.machine_model.proofs.OthersStay.{StaysFor}
+use Rattle.machine_model.proofs.OthersStay.{StaysFor, stays-refused}
 
 -- the bound of two lists together
 pub above-append : (xs ys : List ℕ) → above (xs ++ ys) ≡ max (above xs) (above ys)
@@ -57,8 +57,7 @@ pub stays-but_begun : (courses : List Course) (m n : Moment) (i : ℕ) → Stays
 stays-but_begun courses m n i stays =
     ap (λ es. by_parts courses i (map (λ e. e.step) es) (above (done_steps n.events i ++ refused_steps courses n i)) (has_begun n i)) stays.history.net
     ∙ (ap (λ ds. by_parts courses i (net_steps m.events i) (above (ds ++ refused_steps courses n i)) (has_begun n i)) stays.history.done
-    ∙ ap (λ ps. by_parts courses i (net_steps m.events i) (above (done_steps m.events i ++ map (λ (p : Piece). p.step) ps)) (has_begun n i))
-    (stays.refused (λ p. eqb p.process i && is_only_try (shape courses i) p.step p.work) (λ q other. and_left _ _ other)))
+    ∙ ap (λ rs. by_parts courses i (net_steps m.events i) (above (done_steps m.events i ++ rs)) (has_begun n i)) (stays-refused courses m n i stays))
 
 -- The effect of its own piece.
 module _ (courses : List Course) (m : Moment) (n : ℕ) where
@@ -66,7 +65,7 @@ module _ (courses : List Course) (m : Moment) (n : ℕ) where
   done_by p = happened (noted m (Effect n)) (event_of courses p)
 
   pub still_refused : (i : ℕ) → refused_steps courses (noted m (Effect n)) i ≡ refused_steps courses m i
-  still_refused i = ap (λ ps. map (λ (p : Piece). p.step) (filter (λ (p : Piece). eqb p.process i && is_only_try (shape courses i) p.step p.work) ps)) (refused-plain m.kept (Effect n) refl (λ x. refl))
+  still_refused i = ap (λ ps. refused_before m i ++ map (λ (p : Piece). p.step) (filter (λ (p : Piece). eqb p.process i && is_only_try (shape courses i) p.step p.work) ps)) (refused-plain m.kept (Effect n) refl (λ x. refl))
 
   -- a step is done
   pub step-effected : (number i b : ℕ) → progress courses (done_by (record { number = number; process = i; step = b; work = Forward })) i ≡ step_done (progress courses m i) b
@@ -156,16 +155,17 @@ module _ (courses : List Course) (m : Moment) (n : ℕ) (p : Piece) (counted : C
   only_try-refused is =
       ap (λ o. by_parts courses p.process (net_steps m.events p.process) o (has_begun m p.process))
       (above-more (done_steps m.events p.process) (refused_steps courses m p.process) (refused_steps courses (noted m (Refuse n)) p.process) p.step
+      (above-more (refused_before m p.process) (steps_passing own_try (refused_pieces m.kept)) (steps_passing own_try (refused_pieces (m.kept ++ Refuse n ∷ []))) p.step
       (ap (λ ps. above (steps_passing own_try ps)) (refused-more m.kept n)
       ∙ (above-refused own_try m.kept n p.step (hands m.kept)
       (Each-weaker (λ q. is_number n q ≡ true → q ≡ p) (λ q. is_number n q ≡ true → (own_try q ≡ true) × (q.step ≡ p.step))
       (λ q its at. (ap own_try (its at) ∙ (own_try_is ∙ is), ap (λ (x : Piece). x.step) (its at))) (hands m.kept) only)
-      ∙ ap (λ t. max (above (refused_steps courses m p.process)) (cond t (p.step + 1) 0)) (sym (found-any (is_number n) (hands m.kept)) ∙ ap is_some found))))
+      ∙ ap (λ t. max (above (steps_passing own_try (refused_pieces m.kept))) (cond t (p.step + 1) 0)) (sym (found-any (is_number n) (hands m.kept)) ∙ ap is_some found)))))
 
   -- the refusal of another piece changes nothing
   pub try-refused : is_only_try (shape courses p.process) p.step p.work ≡ false → progress courses (noted m (Refuse n)) p.process ≡ progress courses m p.process
   try-refused is =
-      ap (λ ps. by_parts courses p.process (net_steps m.events p.process) (above (done_steps m.events p.process ++ map (λ (q : Piece). q.step) ps)) (has_begun m p.process))
+      ap (λ ps. by_parts courses p.process (net_steps m.events p.process) (above (done_steps m.events p.process ++ (refused_before m p.process ++ map (λ (q : Piece). q.step) ps))) (has_begun m p.process))
       (refused-other own_try m.kept n (Each-weaker (λ q. is_number n q ≡ true → q ≡ p) (λ q. is_number n q ≡ true → own_try q ≡ false) (λ q its at. ap own_try (its at) ∙ (own_try_is ∙ is)) (hands m.kept) only))
 
   refused_by : (t : Bool) → is_only_try (shape courses p.process) p.step p.work ≡ t → progress courses (noted m (Refuse n)) p.process ≡ cond t (past (progress courses m p.process) p.step) (progress courses m p.process)

@@ -75,7 +75,7 @@ module _ (table : ConflictRelation) (symmetric : IsSymmetric table) (plans : Lis
         by_test true is = is
         by_test false is = absurd (never (fixed.free x e there goes here its_active is back))
 
-    pending_if_begun : has_begun m e.process ≡ true → is_pending cs m e ≡ true
+    pub pending_if_begun : has_begun m e.process ≡ true → is_pending cs m e ≡ true
     pending_if_begun begun =
         and_from (is_active m.events e.process) (has_step e (pending_of cs m e.process)) its_active (ap (has_step e) (begun_undo_all cs m e.process begun) ∙ can_be_undone)
 

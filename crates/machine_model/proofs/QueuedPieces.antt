@@ -16,7 +16,7 @@ use Rattle.machine_model.specs.Advance.{advance}
 use Rattle.machine_model.specs.Runs.{is_run, now}
 use Rattle.machine_model.specs.Replies.{Next, finish_kept, chosen, wait, all_ended, stuck, all_victims, victims, victim_then}
 use Rattle.machine_model.specs.Calls.{next_kept}
-use Rattle.machine_model.specs.Groups.{Subsystems, Queue, queued, full, refused, over, dropped, no_piece, no_refusal, flush_reply, ended_then, kept_for_ended, queue_kept, queue_adds, queue_reply}
+use Rattle.machine_model.specs.Groups.{Targets, Queue, queued, full, refused, over, dropped, no_piece, no_refusal, flush_reply, ended_then, kept_for_ended, queue_kept, queue_adds, queue_reply}
 use Rattle.machine_model.specs.Turns.{Board, Turn, nexts, finishes, queues, flushes, says, no_memory, disk_fault, is_closed, AllMaySay, MaySayBy, OpenMaySay, SaysClosed, after_flush, after_finish, after_next, after_queue, after_said, after_turn, after_turns}
 use Rattle.machine_model.specs.CallLaws.{FlushesKeepWhatRuns, QueuedAreOutOrDropped}
 use Rattle.machine_model.proofs.Counting.{count-some, none-count}
@@ -81,7 +81,7 @@ queue_finishes n x (dropped k) other = refl
 queue_finishes n x no_piece other = refl
 queue_finishes n x no_refusal other = refl
 
-module _ (table : ConflictRelation) (subsystems : Subsystems) where
+module _ (table : ConflictRelation) (targets : Targets) where
   grown : (ks js : List Kept) (ns : List ℕ) → Each (λ n. is_finished js n ≡ false) ns → Each (IsUnfinished ks) ns → Each (IsUnfinished (ks ++ js)) ns
   grown ks js ns others each = Each-weaker (λ n. (is_finished js n ≡ false) × IsUnfinished ks n) (IsUnfinished (ks ++ js)) (λ n both. still_unfinished ks js n both.0 both.1) ns (Each-both (λ n. is_finished js n ≡ false) (IsUnfinished ks) ns others each)
 
@@ -109,13 +109,13 @@ module _ (table : ConflictRelation) (subsystems : Subsystems) where
   kept_apart n no_piece = tt
   kept_apart n no_refusal = tt
 
-  queue_stands : (b : Board) (n : ℕ) (q : Queue) → is_run table b.machine ≡ true → QueueKeeps table subsystems b.machine.courses (now table b.machine) b.group n q → GroupStands b → GroupStands (after_queue b n q)
+  queue_stands : (b : Board) (n : ℕ) (q : Queue) → is_run table b.machine ≡ true → QueueKeeps table targets b.machine.courses (now table b.machine) b.group n q → GroupStands b → GroupStands (after_queue b n q)
   queue_stands b n q run keeps stands =
       grown b.machine.kept (queue_kept n q) (b.group ++ queue_adds n q)
       (Each-append (λ x. is_finished (queue_kept n q) x ≡ false) b.group (queue_adds n q) (all_apart n q b.group keeps.apart) (kept_apart n q))
       (Each-append (IsUnfinished b.machine.kept) b.group (queue_adds n q) stands (added_by b n q run keeps.out))
 
-  open_stands : (b : Board) (t : Turn) → OpenMaySay table subsystems b t → is_run table b.machine ≡ true → GroupStands b → GroupStands (after_turn table b t)
+  open_stands : (b : Board) (t : Turn) → OpenMaySay table targets b t → is_run table b.machine ≡ true → GroupStands b → GroupStands (after_turn table b t)
   open_stands b (nexts (says r)) may run stands =
       let m = now table b.machine in
       let vs = all_victims table b.machine.courses m in
@@ -130,7 +130,7 @@ module _ (table : ConflictRelation) (subsystems : Subsystems) where
   open_stands b (finishes n outcome (is_closed k)) may run stands = absurd may
   open_stands b (queues n outcome (says r)) may run stands =
       subst (λ q. GroupStands (after_queue b n q)) (sym may.2)
-      (queue_stands b n (queue_reply table subsystems b.machine.courses (now table b.machine) b.group n may.0) run (queue-keeps table subsystems b.machine.courses (now table b.machine) b.group n may.0) stands)
+      (queue_stands b n (queue_reply table targets b.machine.courses (now table b.machine) b.group n may.0) run (queue-keeps table targets b.machine.courses (now table b.machine) b.group n may.0) stands)
   open_stands b (queues n outcome no_memory) may run stands = stands
   open_stands b (queues n outcome disk_fault) may run stands = absurd may
   open_stands b (queues n outcome (is_closed k)) may run stands = absurd may
@@ -145,13 +145,13 @@ module _ (table : ConflictRelation) (subsystems : Subsystems) where
   closed_stands b (queues n outcome said) k is stands = subst GroupStands (sym (ap (after_said (after_queue b n) b) is)) stands
   closed_stands b (flushes said) k is stands = subst GroupStands (sym (ap (after_said (after_flush table b) b) is)) stands
 
-  by_closed : (b : Board) (t : Turn) (o : Option ℕ) → MaySayBy table subsystems b t o → is_run table b.machine ≡ true → GroupStands b → GroupStands (after_turn table b t)
+  by_closed : (b : Board) (t : Turn) (o : Option ℕ) → MaySayBy table targets b t o → is_run table b.machine ≡ true → GroupStands b → GroupStands (after_turn table b t)
   by_closed b t None may run stands = open_stands b t may run stands
   by_closed b t (Some k) may run stands = closed_stands b t k may stands
 
-  pub turns_stand : (b : Board) (ts : List Turn) → AllMaySay table subsystems b ts → IsGoodBoard table b → GroupStands b → GroupStands (after_turns table b ts) × IsGoodBoard table (after_turns table b ts)
+  pub turns_stand : (b : Board) (ts : List Turn) → AllMaySay table targets b ts → IsGoodBoard table b → GroupStands b → GroupStands (after_turns table b ts) × IsGoodBoard table (after_turns table b ts)
   turns_stand b [] may good stands = (stands, good)
-  turns_stand b (t ∷ ts) may good stands = turns_stand (after_turn table b t) ts may.1 (turn-good table subsystems b t may.0 good) (by_closed b t b.closed may.0 good.run stands)
+  turns_stand b (t ∷ ts) may good stands = turns_stand (after_turn table b t) ts may.1 (turn-good table targets b t may.0 good) (by_closed b t b.closed may.0 good.run stands)
 
 listed_has : (P : ℕ → Type 0) (ns : List ℕ) (n : ℕ) → Each P ns → is_in n ns ≡ true → P n
 listed_has P [] n each is = absurd (false≢true is)
@@ -162,8 +162,8 @@ listed_has P (x ∷ ns) n each is = by_head (or_cases (eqb n x) (is_in n ns) is)
     by_head (inr later) rest = rest later
 
 pub queued_are_out_or_dropped : QueuedAreOutOrDropped
-queued_are_out_or_dropped table subsystems b last ts empty run are n among is =
-    let both = turns_stand table subsystems b ts are.0 (record { run = run; distinct = subst AreDistinct (sym empty) tt }) (subst (Each (IsUnfinished b.machine.kept)) (sym empty) tt) in
+queued_are_out_or_dropped table targets b last ts empty run are n among is =
+    let both = turns_stand table targets b ts are.0 (record { run = run; distinct = subst AreDistinct (sym empty) tt }) (subst (Each (IsUnfinished b.machine.kept)) (sym empty) tt) in
     let stands : GroupStands last = subst GroupStands (sym are.1) both.0 in
     let its = listed_has (IsUnfinished last.machine.kept) last.group n stands among in
     let run' : is_run table last.machine ≡ true = ap (λ (x : Board). is_run table x.machine) are.1 ∙ both.1.run in

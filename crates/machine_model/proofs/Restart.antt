@@ -224,23 +224,28 @@ first_is : (is : List ℕ) (i : ℕ) → first_of is ≡ Some i → (rest : List
 first_is [] i at = absurd (none-some i at)
 first_is (j ∷ is) i at = (is, ap (λ k. k ∷ is) (same_Some j i at))
 
-pub restart_follows_completion : RestartFollowsCompletion
-restart_follows_completion table plans s session all i next = by_end (has_end (all_backward_entries s.courses (now table s).events)) next
+-- once all have begun to complete, the next event is the head of the completion
+pub follows_completion : (courses : List Course) (m : Moment) → All (HasPlansAccess courses) (acts m.events) → AllHaveBegun m → (i : ℕ) → next_in_restart courses m ≡ Some i → let t = next_of courses m i in
+    (rest : List Event) × (completion courses m.events ≡ event_by courses i t.step t.work ∷ rest)
+follows_completion courses m plans all i next = by_end (has_end (all_backward_entries courses m.events)) next
   where
-    pending : pending_in_order s.courses (now table s) ≡ all_backward_entries s.courses (now table s).events
-    pending = pending-all s.courses (now table s) all
+    pending : pending_in_order courses m ≡ all_backward_entries courses m.events
+    pending = pending-all courses m all
 
-    by_end : (all_backward_entries s.courses (now table s).events ≡ []) ⊎ HasEnd (all_backward_entries s.courses (now table s).events) → next_in_restart s.courses (now table s) ≡ Some i → let t = next_of s.courses (now table s) i in
-        (rest : List Event) × (completion s.courses (now table s).events ≡ event_by s.courses i t.step t.work ∷ rest)
+    by_end : (all_backward_entries courses m.events ≡ []) ⊎ HasEnd (all_backward_entries courses m.events) → next_in_restart courses m ≡ Some i → let t = next_of courses m i in
+        (rest : List Event) × (completion courses m.events ≡ event_by courses i t.step t.work ∷ rest)
     by_end (inl none) at =
-        let first = first_is (active (now table s).events) i (sym (ap (λ es. option_or (last_of (map (λ (e : Entry). e.process) es)) (first_of (active (now table s).events))) (pending ∙ none)) ∙ at) in
-        nothing_pending s.courses (now table s) all i first.0 none first.1
+        let first = first_is (active m.events) i (sym (ap (λ es. option_or (last_of (map (λ (e : Entry). e.process) es)) (first_of (active m.events))) (pending ∙ none)) ∙ at) in
+        nothing_pending courses m all i first.0 none first.1
     by_end (inr ends) at =
-        let plans' = run-of_plans table s session.run (acts-of_plans table s.courses s.opening session.legal) in
         let last = ap last_of (ap (map (λ (e : Entry). e.process)) (pending ∙ ends.is) ∙ map-append (λ (e : Entry). e.process) ends.front (ends.last ∷ [])) ∙ last_of-push (map (λ (e : Entry). e.process) ends.front) ends.last.process in
-        let same : ends.last.process ≡ i = same_Some ends.last.process i (sym (ap (λ o. option_or o (first_of (active (now table s).events))) last) ∙ at) in
-        subst (λ j. let t = next_of s.courses (now table s) j in (rest : List Event) × (completion s.courses (now table s).events ≡ event_by s.courses j t.step t.work ∷ rest)) same
-        (something_pending s.courses (now table s) all ends.front ends.last plans' ends.is)
+        let same : ends.last.process ≡ i = same_Some ends.last.process i (sym (ap (λ o. option_or o (first_of (active m.events))) last) ∙ at) in
+        subst (λ j. let t = next_of courses m j in (rest : List Event) × (completion courses m.events ≡ event_by courses j t.step t.work ∷ rest)) same
+        (something_pending courses m all ends.front ends.last plans ends.is)
+
+pub restart_follows_completion : RestartFollowsCompletion
+restart_follows_completion table plans s session all i next =
+    follows_completion s.courses (now table s) (run-of_plans table s session.run (acts-of_plans table s.courses s.opening session.legal)) all i next
 
 pub restart_begins_all : RestartBeginsAll
 restart_begins_all table courses m i active' =

@@ -18,7 +18,7 @@ use Rattle.machine_model.specs.Advance.{advance, with_piece, event_of}
 use Rattle.machine_model.specs.Runs.{is_run, now, is_no_end, goes_on_from}
 use Rattle.machine_model.specs.Replies.{Next, all_victims, finish_kept, refusal_reply}
 use Rattle.machine_model.specs.Calls.{next, finish, next_is, next_kept}
-use Rattle.machine_model.specs.Groups.{Subsystems, Taken, as_done, as_refused, as_barred, Queue, queued, full, over, dropped, no_piece, no_refusal, full_or, refused_unless_end as queue_refused, queue_reply, queue_kept, queue_adds, flush_kept, flush_reply, ended_then, kept_for_ended, queue_piece, queue_by, out_queue, is_full, is_end_piece}
+use Rattle.machine_model.specs.Groups.{Targets, Taken, as_done, as_refused, as_barred, Queue, queued, full, over, dropped, no_piece, no_refusal, full_or, refused_unless_end as queue_refused, queue_reply, queue_kept, queue_adds, flush_kept, flush_reply, ended_then, kept_for_ended, queue_piece, queue_by, out_queue, is_full, is_end_piece}
 use Rattle.machine_model.specs.Turns.{Board, Turn, nexts, finishes, queues, flushes, says, no_memory, disk_fault, is_closed, after_said, after_next, after_finish, after_queue, after_flush, after_turn, after_turns, taken_as, SaysClosed, MaySayBy, MaySay, OpenMaySay, AllMaySay}
 use Rattle.machine_model.specs.CallLaws.{TurnsMakeRuns}
 use Rattle.machine_model.proofs.Snoc.{keeping, goes_on-append}
@@ -67,7 +67,7 @@ module _ (table : ConflictRelation) (courses : List Course) where
       (λ is. flush-goes m o place ns distinct.1 (λ k listed. alike k (or_right (eqb k n) (is_in k ns) listed)))
 
 -- where nothing is queued as before: what the queueing of a piece keeps may be kept, and it is queued once
-module _ (table : ConflictRelation) (subsystems : Subsystems) (courses : List Course) (m : Moment) (group : List ℕ) (n : ℕ) where
+module _ (table : ConflictRelation) (targets : Targets) (courses : List Course) (m : Moment) (group : List ℕ) (n : ℕ) where
   pub record QueueKeeps (q : Queue) : Type 0 where
     pub may : goes_on_from table courses m (queue_kept n q) ≡ true
     pub distinct : AreDistinct group → AreDistinct (group ++ queue_adds n q)
@@ -103,19 +103,19 @@ module _ (table : ConflictRelation) (subsystems : Subsystems) (courses : List Co
   by_state q Over keeps = nothing over refl refl
 
   by_group : (p : Piece) (taken : Taken) (t : Bool) → piece_of m.kept n ≡ Some p → is_in p.number group ≡ t
-      → QueueKeeps (if t then over else queue_by (out_queue (is_end_piece p) (is_full subsystems courses m group p) (refusal_reply courses (advance table courses m (Refuse p.number)) p) taken) (state_of m p.number))
+      → QueueKeeps (if t then over else queue_by (out_queue (is_end_piece p) (is_full targets courses m group p) (refusal_reply courses (advance table courses m (Refuse p.number)) p) taken) (state_of m p.number))
   by_group p taken true found is = nothing over refl refl
   by_group p taken false found is =
       let number : p.number ≡ n = eqb-true p.number n (find-passes (λ q. eqb q.number n) (hands m.kept) p found) in
-      by_state (out_queue (is_end_piece p) (is_full subsystems courses m group p) (refusal_reply courses (advance table courses m (Refuse p.number)) p) taken) (state_of m p.number)
-      (λ out. by_taken p (is_full subsystems courses m group p) (refusal_reply courses (advance table courses m (Refuse p.number)) p) taken found
+      by_state (out_queue (is_end_piece p) (is_full targets courses m group p) (refusal_reply courses (advance table courses m (Refuse p.number)) p) taken) (state_of m p.number)
+      (λ out. by_taken p (is_full targets courses m group p) (refusal_reply courses (advance table courses m (Refuse p.number)) p) taken found
       (ap (runs m) (sym number) ∙ out_runs (runs m p.number) (dropped_at m p.number) out) (ap (λ k. is_in k group) (sym number) ∙ is))
 
-  by_piece : (taken : Taken) (o : Option Piece) → piece_of m.kept n ≡ o → QueueKeeps (queue_piece table subsystems courses m group taken o)
+  by_piece : (taken : Taken) (o : Option Piece) → piece_of m.kept n ≡ o → QueueKeeps (queue_piece table targets courses m group taken o)
   by_piece taken None found = nothing no_piece refl refl
   by_piece taken (Some p) found = by_group p taken (is_in p.number group) found refl
 
-  pub queue-keeps : (taken : Taken) → QueueKeeps (queue_reply table subsystems courses m group n taken)
+  pub queue-keeps : (taken : Taken) → QueueKeeps (queue_reply table targets courses m group n taken)
   queue-keeps taken = by_piece taken (piece_of m.kept n) refl
 
 -- a board whose kept events are a run, and in whose group no piece stands twice
@@ -123,14 +123,14 @@ pub record IsGoodBoard (table : ConflictRelation) (b : Board) : Type 0 where
   pub run : is_run table b.machine ≡ true
   pub distinct : AreDistinct b.group
 
-module _ (table : ConflictRelation) (subsystems : Subsystems) where
+module _ (table : ConflictRelation) (targets : Targets) where
   longer : (b : Board) (ks : List Kept) → is_run table b.machine ≡ true → goes_on_from table b.machine.courses (now table b.machine) ks ≡ true → is_run table (keeping b.machine ks) ≡ true
   longer b ks run goes = goes_on-append table b.machine.courses (opening_moment b.machine.opening) b.machine.kept ks ∙ and_from (is_run table b.machine) _ run goes
 
   same_next : {a b : Next} → next_is a ≡ next_is b → a ≡ b
   same_next {a} {b} is = cc
 
-  open_turn : (b : Board) (t : Turn) → OpenMaySay table subsystems b t → IsGoodBoard table b → IsGoodBoard table (after_turn table b t)
+  open_turn : (b : Board) (t : Turn) → OpenMaySay table targets b t → IsGoodBoard table b → IsGoodBoard table (after_turn table b t)
   open_turn b (nexts (says r)) may good = record {
     run = ap (λ x. is_run table (keeping b.machine (all_victims table b.machine.courses (now table b.machine) ++ next_kept x))) (sym (same_next may)) ∙ call-makes_run table b.machine next tt good.run;
     distinct = good.distinct;
@@ -146,9 +146,9 @@ module _ (table : ConflictRelation) (subsystems : Subsystems) where
   open_turn b (finishes n outcome disk_fault) may good = record { run = good.run; distinct = good.distinct }
   open_turn b (finishes n outcome (is_closed k)) may good = absurd may
   open_turn b (queues n outcome (says r)) may good =
-      let keeps = queue-keeps table subsystems b.machine.courses (now table b.machine) b.group n may.0 in
+      let keeps = queue-keeps table targets b.machine.courses (now table b.machine) b.group n may.0 in
       record {
-        run = ap (λ x. is_run table (keeping b.machine (queue_kept n x))) may.2 ∙ longer b (queue_kept n (queue_reply table subsystems b.machine.courses (now table b.machine) b.group n may.0)) good.run keeps.may;
+        run = ap (λ x. is_run table (keeping b.machine (queue_kept n x))) may.2 ∙ longer b (queue_kept n (queue_reply table targets b.machine.courses (now table b.machine) b.group n may.0)) good.run keeps.may;
         distinct = subst (λ x. AreDistinct (b.group ++ queue_adds n x)) (sym may.2) (keeps.distinct good.distinct);
       }
   open_turn b (queues n outcome no_memory) may good = good
@@ -168,18 +168,18 @@ module _ (table : ConflictRelation) (subsystems : Subsystems) where
   closed_turn b (queues n outcome said) k is good = subst (IsGoodBoard table) (sym (ap (after_said (after_queue b n) b) is)) good
   closed_turn b (flushes said) k is good = subst (IsGoodBoard table) (sym (ap (after_said (after_flush table b) b) is)) good
 
-  by_closed : (b : Board) (t : Turn) (o : Option ℕ) → MaySayBy table subsystems b t o → IsGoodBoard table b → IsGoodBoard table (after_turn table b t)
+  by_closed : (b : Board) (t : Turn) (o : Option ℕ) → MaySayBy table targets b t o → IsGoodBoard table b → IsGoodBoard table (after_turn table b t)
   by_closed b t None may good = open_turn b t may good
   by_closed b t (Some k) may good = closed_turn b t k may good
 
-  pub turn-good : (b : Board) (t : Turn) → MaySay table subsystems b t → IsGoodBoard table b → IsGoodBoard table (after_turn table b t)
+  pub turn-good : (b : Board) (t : Turn) → MaySay table targets b t → IsGoodBoard table b → IsGoodBoard table (after_turn table b t)
   turn-good b t may good = by_closed b t b.closed may good
 
-  pub turns-good : (b : Board) (ts : List Turn) → AllMaySay table subsystems b ts → IsGoodBoard table b → IsGoodBoard table (after_turns table b ts)
+  pub turns-good : (b : Board) (ts : List Turn) → AllMaySay table targets b ts → IsGoodBoard table b → IsGoodBoard table (after_turns table b ts)
   turns-good b [] may good = good
   turns-good b (t ∷ ts) may good = turns-good (after_turn table b t) ts may.1 (turn-good b t may.0 good)
 
 pub turns_make_runs : TurnsMakeRuns
-turns_make_runs table subsystems b last ts empty run are =
-    let good = turns-good table subsystems b ts are.0 (record { run = run; distinct = subst AreDistinct (sym empty) tt }) in
+turns_make_runs table targets b last ts empty run are =
+    let good = turns-good table targets b ts are.0 (record { run = run; distinct = subst AreDistinct (sym empty) tt }) in
     ap (λ x. is_run table x.machine) are.1 ∙ good.run

@@ -1,5 +1,5 @@
 -- The laws of calls and of turns, as statements.
-use Rattle.std.specs.Prelude.{◌≡◌, ◌≢◌, ◌⊎◌, ◌↔◌, ◌≤◌, ℕ, List, [], ◌++◌, length, map, filter, IsTrue, Some, None}
+use Rattle.std.specs.Prelude.{false, ◌≡◌, ◌≢◌, ◌⊎◌, ◌↔◌, ◌≤◌, ℕ, List, [], ◌++◌, length, map, filter, IsTrue, Some, None}
 use Rattle.process_tree.specs.declared.plan.Plan.{Plan}
 use Rattle.process_tree.specs.Shape.{least}
 use Rattle.schedule_model.specs.declared.event.Event.{Event}
@@ -13,10 +13,10 @@ use Rattle.machine_model.specs.Pieces.{runs, state_of}
 use Rattle.machine_model.specs.Moment.{Moment, has_begun}
 use Rattle.machine_model.specs.State.{is_blocked, is_exhausted, victim_of}
 use Rattle.machine_model.specs.Advance.{Machine, advance_all}
-use Rattle.machine_model.specs.Runs.{history, is_run, now}
-use Rattle.machine_model.specs.Replies.{stuck, victims, all_victims, least_exhausted}
+use Rattle.machine_model.specs.Runs.{is_run, now}
+use Rattle.machine_model.specs.Replies.{stuck, victims, all_victims}
 use Rattle.machine_model.specs.Calls.{IsNoStart, Call, answer, answer_next, answered, next_is}
-use Rattle.machine_model.specs.Groups.{Subsystems, flush_kept}
+use Rattle.machine_model.specs.Groups.{Targets, Taken, flush_kept, queue_reply}
 use Rattle.machine_model.specs.Turns.{Board, Turn, AreTurns}
 use Rattle.machine_model.specs.Laws.{IsSession}
 
@@ -38,31 +38,25 @@ VictimsRunDry = (table : ConflictRelation) (courses : List Course) (m : Moment)
     × ((n : ℕ) → length (active m.events) ≤ n → victims n table courses m ≡ all_victims table courses m)
 
 -- One is stuck: some process is active, nothing runs, each active process is exhausted, or has begun to complete and is
--- blocked, and i is the least exhausted one.
+-- blocked, and the least exhausted one is i.
 pub record IsStuck (table : ConflictRelation) (courses : List Course) (m : Moment) (i : ℕ) : Type 0 where
   pub some_active : active m.events ≢ []
   pub nothing_runs : m.out ≡ []
   pub nobody_goes : (k : ℕ) → IsTrue (is_active m.events k)
       → IsTrue (is_exhausted courses m k) ⊎ (IsTrue (has_begun m k) × IsTrue (is_blocked table courses m k))
-  pub least : i ≡ least_exhausted courses m
+  pub is_least : least (filter (is_exhausted courses m) (active m.events)) ≡ Some i
 
--- A request for any piece answers so exactly where it is so after the victims that it makes.
+-- In a session a request for any piece answers so exactly where it is so after the victims that it makes.
 abbrev pub StuckIsExact : Type 0
-StuckIsExact = (table : ConflictRelation) (courses : List Course) (m : Moment) (served i : ℕ)
-    → ((answer_next table courses m served).reply ≡ next_is (stuck i)) ↔ IsStuck table courses
-    (advance_all table courses m (all_victims table courses m)) i
-
--- In a session in which one is stuck, some process is exhausted, and the one that is named is the least of those.
-abbrev pub StuckIsExhausted : Type 0
-StuckIsExhausted = (table : ConflictRelation) (plans : List Plan) (s : Machine) → IsSession table plans s → (i : ℕ)
-    → IsStuck table s.courses (now table s) i
-    → least (filter (is_exhausted s.courses (now table s)) (active (history table s))) ≡ Some i
+StuckIsExact = (table : ConflictRelation) (plans : List Plan) (s : Machine) → IsSession table plans s → (i : ℕ)
+    → ((answer_next table s.courses (now table s) s.served).reply ≡ next_is (stuck i)) ↔ IsStuck table s.courses
+    (advance_all table s.courses (now table s) (all_victims table s.courses (now table s))) i
 
 -- Turns make a run: where nothing was queued at first, what they keep makes a longer one.
 abbrev pub TurnsMakeRuns : Type 0
-TurnsMakeRuns = (table : ConflictRelation) (subsystems : Subsystems) (b last : Board) (ts : List Turn) → b.group ≡ []
+TurnsMakeRuns = (table : ConflictRelation) (targets : Targets) (b last : Board) (ts : List Turn) → b.group ≡ []
     → IsTrue (is_run table b.machine)
-    → AreTurns table subsystems b ts last → IsTrue (is_run table last.machine)
+    → AreTurns table targets b ts last → IsTrue (is_run table last.machine)
 
 -- A flush keeps an effect for each piece of the group that runs, in order.
 abbrev pub FlushesKeepWhatRuns : Type 0
@@ -70,6 +64,12 @@ FlushesKeepWhatRuns = (m : Moment) (group : List ℕ) → flush_kept m group ≡
 
 -- Whatever is queued is out or was dropped, so that a flush tells of each piece where its event stands or when it was dropped.
 abbrev pub QueuedAreOutOrDropped : Type 0
-QueuedAreOutOrDropped = (table : ConflictRelation) (subsystems : Subsystems) (b last : Board) (ts : List Turn) → b.group ≡ []
+QueuedAreOutOrDropped = (table : ConflictRelation) (targets : Targets) (b last : Board) (ts : List Turn) → b.group ≡ []
     → IsTrue (is_run table b.machine)
-    → AreTurns table subsystems b ts last → (n : ℕ) → IsTrue (is_in n last.group) → state_of (now table last.machine) n ≢ Over
+    → AreTurns table targets b ts last → (n : ℕ) → IsTrue (is_in n last.group) → state_of (now table last.machine) n ≢ Over
+
+-- A piece of the group that was dropped changes no answer to the queueing of another.
+abbrev pub DroppedChangeNoAnswer : Type 0
+DroppedChangeNoAnswer = (table : ConflictRelation) (targets : Targets) (courses : List Course) (m : Moment) (group : List ℕ) (n : ℕ)
+    (taken : Taken) → is_in n group ≡ false
+    → queue_reply table targets courses m (filter (runs m) group) n taken ≡ queue_reply table targets courses m group n taken

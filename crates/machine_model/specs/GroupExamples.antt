@@ -1,5 +1,5 @@
 -- Worked examples, computed: pieces that are queued and take effect together.
-use Rattle.std.specs.Prelude.{ℕ, false, List, ◌≡◌, [], ◌∷◌, length, None, refl}
+use Rattle.std.specs.Prelude.{ℕ, true, false, List, ◌≡◌, [], ◌∷◌, length, None, refl}
 use Rattle.process_tree.specs.declared.play.Outcome.TheVariants.{Done}
 use Rattle.schedule_model.specs.Course.{Course}
 use Rattle.schedule_model.specs.Samples.{stock_table, line, addition, pay}
@@ -10,14 +10,18 @@ use Rattle.machine_model.specs.declared.kept.Work.TheVariants.{Forward}
 use Rattle.machine_model.specs.Moment.{Moment}
 use Rattle.machine_model.specs.Runs.{now}
 use Rattle.machine_model.specs.Calls.{start, admit, finish, abort, Session}
-use Rattle.machine_model.specs.Groups.{Subsystems, queue_reply, queued, full, over, no_refusal, as_done, as_refused, flush_kept}
+use Rattle.machine_model.specs.Groups.{Targets, queue_reply, queued, full, over, no_refusal, as_done, as_refused, flush_kept}
 use Rattle.machine_model.specs.Groups.{flush_reply, effected, dropped_at_event}
 use Rattle.machine_model.specs.Turns.{Board, queues, flushes, says, IsTurn, AreTurns, FlushesAreDue}
 use Rattle.machine_model.specs.Examples.{from_nothing}
 
--- each operation has a store of its own
-abbrev pub stores : Subsystems
-stores op = op
+-- each operation has a subsystem of its own, where values can bar it
+abbrev pub stores : Targets
+stores op = record { subsystem = op; has_bar = true }
+
+-- or where they can't
+abbrev pub open_stores : Targets
+open_stores op = record { subsystem = op; has_bar = false }
 
 -- a payment alone
 abbrev pub payment : Course
@@ -49,13 +53,26 @@ pub flushed_places : flush_reply at_work (length at_work.events) (1 ∷ 2 ∷ []
     record { piece = 1; ending = effected 3 } ∷ record { piece = 2; ending = effected 4 } ∷ []
 flushed_places = refl
 
--- two additions need one store, so the second has to wait for a flush
+-- two additions act at one key, so a second that values can bar has to wait for a flush
 abbrev pub two_additions : Session
 two_additions = from_nothing (start addition ∷ start addition ∷ admit 1 ∷ admit 2 ∷ [])
 
 pub second_is_full : queue_reply stock_table stores two_additions.machine.courses (now stock_table two_additions.machine)
     (1 ∷ []) 2 as_done ≡ full
 second_is_full = refl
+
+-- one that they can't bar doesn't wait
+pub second_has_place : queue_reply stock_table open_stores two_additions.machine.courses (now stock_table two_additions.machine)
+    (1 ∷ []) 2 as_done ≡ queued
+second_has_place = refl
+
+-- nor does it where the first was dropped meanwhile
+abbrev pub first_dropped : Session
+first_dropped = from_nothing (start addition ∷ start addition ∷ admit 1 ∷ admit 2 ∷ abort 1 ∷ [])
+
+pub second_beside_dropped : queue_reply stock_table stores first_dropped.machine.courses (now stock_table first_dropped.machine)
+    (1 ∷ []) 2 as_done ≡ queued
+second_beside_dropped = refl
 
 -- a queued piece whose process is asked to complete before the flush is dropped, and the flush keeps nothing of it
 abbrev pub dropped_while_queued : Moment

@@ -1,10 +1,10 @@
 -- Groups: pieces that are queued and take effect together.
-use Rattle.std.specs.Prelude.{ℕ, ◌+◌, Bool, true, false, not, ◌&&◌, ◌||◌, List, [], ◌∷◌, filter, flat_map, length, nat_eq, nat_le}
+use Rattle.std.specs.Prelude.{ℕ, ◌+◌, Bool, true, false, not, ◌&&◌, List, [], ◌∷◌, flat_map, length, nat_eq}
 use Rattle.std.specs.Prelude.{if◌then◌else◌, Option, Some, None, unwrap_or}
 use Rattle.std.specs.List.{list_any, filter_map}
 use Rattle.process_tree.specs.declared.play.Outcome.{Outcome}
 use Rattle.process_tree.specs.declared.play.Outcome.TheVariants.{Done, Refused}
-use Rattle.schedule_model.specs.Course.{Course, op_of}
+use Rattle.schedule_model.specs.Course.{Course, op_of, key_of}
 use Rattle.schedule_model.specs.Conflict.{ConflictRelation}
 use Rattle.schedule_model.specs.Histories.{is_in}
 use Rattle.machine_model.specs.declared.kept.Work.TheVariants.{Forward, End}
@@ -19,9 +19,14 @@ use Rattle.machine_model.specs.Pieces.{piece_of, dropped_at, runs, state_of}
 use Rattle.machine_model.specs.Advance.{advance}
 use Rattle.machine_model.specs.Replies.{refusal_reply}
 
--- the subsystem of each operation
-abbrev pub Subsystems : Type 0
-Subsystems = ℕ → ℕ
+-- what a group asks of an operation: its subsystem, and whether values can bar a step of it
+pub record Target : Type 0 where
+  pub subsystem : ℕ
+  pub has_bar : Bool
+
+-- that of each operation
+abbrev pub Targets : Type 0
+Targets = ℕ → Target
 
 -- how an answer to a piece is taken: as done, as refused, or as refused since the subsystem bars the step
 pub data Taken : Type 0 where
@@ -46,17 +51,22 @@ pieces_in m group = filter_map (piece_of m.kept) group
 abbrev pub is_end_piece : Piece → Bool
 is_end_piece p = same_work p.work End
 
--- two pieces need one store: steps or undos whose operations are of one subsystem
-abbrev pub share_store : Subsystems → List Course → Piece → Piece → Bool
-share_store subsystems courses p q =
+-- two pieces act at one key: steps or undos, at the same key of the same subsystem
+abbrev pub share_key : Targets → List Course → Piece → Piece → Bool
+share_key targets courses p q =
     not (is_end_piece p) && not (is_end_piece q)
-    && nat_eq (subsystems (op_of courses p.process p.step)) (subsystems (op_of courses q.process q.step))
+    && nat_eq (targets (op_of courses p.process p.step)).subsystem (targets (op_of courses q.process q.step)).subsystem
+    && nat_eq (key_of courses p.process p.step) (key_of courses q.process q.step)
 
--- a group is full for a piece where it has one that needs the same store, or the piece is an end and it has eight ends
-abbrev pub is_full : Subsystems → List Course → Moment → List ℕ → Piece → Bool
-is_full subsystems courses m group p =
-    list_any (share_store subsystems courses p) (pieces_in m group)
-    || (is_end_piece p && nat_le 8 (length (filter is_end_piece (pieces_in m group))))
+-- values can bar a piece: a forward step of such an operation
+abbrev pub can_be_barred : Targets → List Course → Piece → Bool
+can_be_barred targets courses p = same_work p.work Forward && (targets (op_of courses p.process p.step)).has_bar
+
+-- A group is full for a piece that values can bar where a piece of it that isn't dropped acts at the same key: what that one will
+-- make of the value there isn't known before the flush.
+abbrev pub is_full : Targets → List Course → Moment → List ℕ → Piece → Bool
+is_full targets courses m group p =
+    can_be_barred targets courses p && list_any (λ q. share_key targets courses p q && runs m q.number) (pieces_in m group)
 
 -- what the queueing of a piece answers
 pub data Queue : Type 0 where
@@ -91,16 +101,16 @@ queue_by out (Dropped k) = dropped k
 queue_by out Over = over
 
 -- piece n, if there is one: one that is queued is over for whoever would queue it again
-abbrev pub queue_piece : ConflictRelation → Subsystems → List Course → Moment → List ℕ → Taken → Option Piece → Queue
-queue_piece table subsystems courses m group taken None = no_piece
-queue_piece table subsystems courses m group taken (Some p) =
+abbrev pub queue_piece : ConflictRelation → Targets → List Course → Moment → List ℕ → Taken → Option Piece → Queue
+queue_piece table targets courses m group taken None = no_piece
+queue_piece table targets courses m group taken (Some p) =
     let refusal = refusal_reply courses (advance table courses m (Refuse p.number)) p in
     if is_in p.number group then over
-    else queue_by (out_queue (is_end_piece p) (is_full subsystems courses m group p) refusal taken) (state_of m p.number)
+    else queue_by (out_queue (is_end_piece p) (is_full targets courses m group p) refusal taken) (state_of m p.number)
 
 -- what is answered to the queueing of piece n
-abbrev pub queue_reply : ConflictRelation → Subsystems → List Course → Moment → List ℕ → ℕ → Taken → Queue
-queue_reply table subsystems courses m group n taken = queue_piece table subsystems courses m group taken (piece_of m.kept n)
+abbrev pub queue_reply : ConflictRelation → Targets → List Course → Moment → List ℕ → ℕ → Taken → Queue
+queue_reply table targets courses m group n taken = queue_piece table targets courses m group taken (piece_of m.kept n)
 
 -- it keeps a refusal or nothing, and a piece that is queued comes last in the group
 abbrev pub queue_kept : ℕ → Queue → List Kept

@@ -24,6 +24,11 @@ pub record Lost : Type 0 where
   pub piece : Piece
   pub event : ℕ
 
+-- a step that was refused and isn't tried again
+pub record RefusedStep : Type 0 where
+  pub process : ℕ
+  pub step : ℕ
+
 -- what is known after some of the kept events
 pub record Moment : Type 0 where
   -- the history
@@ -36,10 +41,12 @@ pub record Moment : Type 0 where
   pub lost : List Lost
   -- who has begun to complete, in order
   pub beginnings : List Beginning
+  -- which steps were refused before the opening and aren't tried again
+  pub refused : List RefusedStep
 
--- the moment of the opening, at which nothing runs and nobody has begun
+-- the moment of an opening on a history, at which nothing runs, nobody has begun and nothing was refused
 abbrev pub opening_moment : List Event → Moment
-opening_moment h = record { events = h; kept = []; out = []; lost = []; beginnings = [] }
+opening_moment h = record { events = h; kept = []; out = []; lost = []; beginnings = []; refused = [] }
 
 -- when process i began to complete, if it has
 abbrev pub beginning_of : Moment → ℕ → Option Beginning
@@ -73,11 +80,25 @@ out_after Restart ps = ps
 
 -- one more kept event
 abbrev pub noted : Moment → Kept → Moment
-noted m k = record { events = m.events; kept = m.kept ++ k ∷ []; out = out_after k m.out; lost = m.lost; beginnings = m.beginnings }
+noted m k = record {
+  events = m.events;
+  kept = m.kept ++ k ∷ [];
+  out = out_after k m.out;
+  lost = m.lost;
+  beginnings = m.beginnings;
+  refused = m.refused;
+}
 
 -- one more event of the history
 abbrev pub happened : Moment → Event → Moment
-happened m e = record { events = m.events ++ e ∷ []; kept = m.kept; out = m.out; lost = m.lost; beginnings = m.beginnings }
+happened m e = record {
+  events = m.events ++ e ∷ [];
+  kept = m.kept;
+  out = m.out;
+  lost = m.lost;
+  beginnings = m.beginnings;
+  refused = m.refused;
+}
 
 -- process i begins to complete at the last kept event: it loses its piece that is out
 abbrev pub begins_now : Cause → Moment → ℕ → Moment
@@ -87,6 +108,7 @@ begins_now cause m i = record {
   out = of_others i m.out;
   lost = m.lost ++ losses i (length m.kept) m.out;
   beginnings = m.beginnings ++ record { process = i; began = record { event = length m.kept; cause = cause } } ∷ [];
+  refused = m.refused;
 }
 
 -- the same, unless it has begun before

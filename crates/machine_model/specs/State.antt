@@ -22,10 +22,15 @@ use Rattle.machine_model.specs.ProcessState.{ProcessState, tries_in, has_used_up
 use Rattle.machine_model.specs.Moment.{Moment, Piece, has_begun}
 use Rattle.machine_model.specs.Pieces.{refused_pieces, refusals, running_of}
 
--- the steps of process i that can be refused and were
+-- the steps of process i that were refused before the opening and aren't tried again
+abbrev pub refused_before : Moment → ℕ → List ℕ
+refused_before m i = map (λ r. r.step) (filter (λ r. nat_eq r.process i) m.refused)
+
+-- the steps of process i that can be refused and were, before the opening and since
 abbrev pub refused_steps : List Course → Moment → ℕ → List ℕ
 refused_steps courses m i =
-    map (λ p. p.step) (filter (λ p. nat_eq p.process i && is_only_try (shape courses i) p.step p.work) (refused_pieces m.kept))
+    refused_before m i
+    ++ map (λ p. p.step) (filter (λ p. nat_eq p.process i && is_only_try (shape courses i) p.step p.work) (refused_pieces m.kept))
 
 -- how far process i has come; processes count from 1, and 0 would be taken for the first
 abbrev pub progress : List Course → Moment → ℕ → Progress

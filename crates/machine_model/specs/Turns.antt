@@ -12,7 +12,7 @@ use Rattle.machine_model.specs.Advance.{Machine}
 use Rattle.machine_model.specs.Runs.{now}
 use Rattle.machine_model.specs.Replies.{Next, chosen, wait, all_ended, stuck, Finish, finish_reply, finish_kept, all_victims}
 use Rattle.machine_model.specs.Calls.{answer_next, next_is, next_kept, next_served}
-use Rattle.machine_model.specs.Groups.{Subsystems, Taken, as_done, as_refused, as_barred, may_take, Queue, queued, full, refused}
+use Rattle.machine_model.specs.Groups.{Targets, Taken, as_done, as_refused, as_barred, may_take, Queue, queued, full, refused}
 use Rattle.machine_model.specs.Groups.{over, dropped, no_piece, no_refusal, queue_reply, queue_kept, queue_adds, flush_kept}
 
 -- the machine with the pieces that are queued, and, once a fault of the disk closed it, how many events were kept then
@@ -126,15 +126,15 @@ FinishMaySay table b n outcome (is_closed k) = ⊥
 
 -- the queueing of piece n, which touches no disk, may say this: the machine's reply; or, for a step that would be queued, that
 -- memory failed
-abbrev pub QueueMaySay : ConflictRelation → Subsystems → Board → ℕ → Outcome → Said Queue → Type 0
-QueueMaySay table subsystems b n outcome (says r) =
+abbrev pub QueueMaySay : ConflictRelation → Targets → Board → ℕ → Outcome → Said Queue → Type 0
+QueueMaySay table targets b n outcome (says r) =
     (taken : Taken) × MayTake outcome taken (piece_of b.machine.kept n)
-    × (r ≡ queue_reply table subsystems b.machine.courses (now table b.machine) b.group n taken)
-QueueMaySay table subsystems b n outcome no_memory =
-    (outcome ≡ Done) × (queue_reply table subsystems b.machine.courses (now table b.machine) b.group n as_done ≡ queued)
+    × (r ≡ queue_reply table targets b.machine.courses (now table b.machine) b.group n taken)
+QueueMaySay table targets b n outcome no_memory =
+    (outcome ≡ Done) × (queue_reply table targets b.machine.courses (now table b.machine) b.group n as_done ≡ queued)
     × IsStepPiece (piece_of b.machine.kept n)
-QueueMaySay table subsystems b n outcome disk_fault = ⊥
-QueueMaySay table subsystems b n outcome (is_closed k) = ⊥
+QueueMaySay table targets b n outcome disk_fault = ⊥
+QueueMaySay table targets b n outcome (is_closed k) = ⊥
 
 -- a flush, which takes no memory, may say this: how many pieces took effect; or that the disk failed, where some piece takes
 -- effect
@@ -145,11 +145,11 @@ FlushMaySay table b disk_fault = flush_kept (now table b.machine) b.group ≢ []
 FlushMaySay table b (is_closed k) = ⊥
 
 -- a turn of a board that isn't closed may say this
-abbrev pub OpenMaySay : ConflictRelation → Subsystems → Board → Turn → Type 0
-OpenMaySay table subsystems b (nexts said) = NextMaySay table b said
-OpenMaySay table subsystems b (finishes n outcome said) = FinishMaySay table b n outcome said
-OpenMaySay table subsystems b (queues n outcome said) = QueueMaySay table subsystems b n outcome said
-OpenMaySay table subsystems b (flushes said) = FlushMaySay table b said
+abbrev pub OpenMaySay : ConflictRelation → Targets → Board → Turn → Type 0
+OpenMaySay table targets b (nexts said) = NextMaySay table b said
+OpenMaySay table targets b (finishes n outcome said) = FinishMaySay table b n outcome said
+OpenMaySay table targets b (queues n outcome said) = QueueMaySay table targets b n outcome said
+OpenMaySay table targets b (flushes said) = FlushMaySay table b said
 
 -- a turn of a closed board says so
 abbrev pub SaysClosed : ℕ → Turn → Type 0
@@ -159,26 +159,26 @@ SaysClosed k (queues n outcome said) = said ≡ is_closed k
 SaysClosed k (flushes said) = said ≡ is_closed k
 
 -- the same, by whether the board is closed
-abbrev pub MaySayBy : ConflictRelation → Subsystems → Board → Turn → Option ℕ → Type 0
-MaySayBy table subsystems b turn None = OpenMaySay table subsystems b turn
-MaySayBy table subsystems b turn (Some k) = SaysClosed k turn
+abbrev pub MaySayBy : ConflictRelation → Targets → Board → Turn → Option ℕ → Type 0
+MaySayBy table targets b turn None = OpenMaySay table targets b turn
+MaySayBy table targets b turn (Some k) = SaysClosed k turn
 
 -- a turn may be made of this board: what it says is the machine's at its place, where an answer of done may be taken as barred
-abbrev pub MaySay : ConflictRelation → Subsystems → Board → Turn → Type 0
-MaySay table subsystems b turn = MaySayBy table subsystems b turn b.closed
+abbrev pub MaySay : ConflictRelation → Targets → Board → Turn → Type 0
+MaySay table targets b turn = MaySayBy table targets b turn b.closed
 
 -- each of these turns may be made of the board after those before it
-abbrev pub AllMaySay : ConflictRelation → Subsystems → Board → List Turn → Type 0
-AllMaySay table subsystems b [] = Unit {0}
-AllMaySay table subsystems b (t ∷ ts) = MaySay table subsystems b t × AllMaySay table subsystems (after_turn table b t) ts
+abbrev pub AllMaySay : ConflictRelation → Targets → Board → List Turn → Type 0
+AllMaySay table targets b [] = Unit {0}
+AllMaySay table targets b (t ∷ ts) = MaySay table targets b t × AllMaySay table targets (after_turn table b t) ts
 
 -- a turn leads from one board to the next
-abbrev pub IsTurn : ConflictRelation → Subsystems → Board → Turn → Board → Type 0
-IsTurn table subsystems b turn after = MaySay table subsystems b turn × (after ≡ after_turn table b turn)
+abbrev pub IsTurn : ConflictRelation → Targets → Board → Turn → Board → Type 0
+IsTurn table targets b turn after = MaySay table targets b turn × (after ≡ after_turn table b turn)
 
 -- these turns, one after another, lead from one board to the last
-abbrev pub AreTurns : ConflictRelation → Subsystems → Board → List Turn → Board → Type 0
-AreTurns table subsystems b ts last = AllMaySay table subsystems b ts × (last ≡ after_turns table b ts)
+abbrev pub AreTurns : ConflictRelation → Targets → Board → List Turn → Board → Type 0
+AreTurns table targets b ts last = AllMaySay table targets b ts × (last ≡ after_turns table b ts)
 
 -- a request that has to wait while something is queued asks for a flush
 abbrev pub asks_to_flush : List ℕ → Next → Bool

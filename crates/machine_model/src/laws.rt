@@ -14,8 +14,9 @@ ghost use Rattle.machine_model.specs.HoldLaws.{RunningGoesByPieces, StartsHoldNo
 ghost use Rattle.machine_model.specs.CauseLaws.{BeginningsHaveCauses, BeginningsStay};
 ghost use Rattle.machine_model.specs.DropLaws.{HandsAreParted, HandsAreWithinTries, OneIsDropped, RefusalsAreWithinTries};
 ghost use Rattle.machine_model.specs.OpenLaws.{EndsDropHoldings, OpenHoldingsAreEnough};
-ghost use Rattle.machine_model.specs.CallLaws.{BeginningsOfRunsAreRuns, CallsKeepRuns, FlushesKeepWhatRuns, QueuedAreOutOrDropped};
-ghost use Rattle.machine_model.specs.CallLaws.{StuckIsExact, StuckIsExhausted, TurnsMakeRuns, VictimsRunDry};
+ghost use Rattle.machine_model.specs.CallLaws.{BeginningsOfRunsAreRuns, CallsKeepRuns, DroppedChangeNoAnswer, FlushesKeepWhatRuns};
+ghost use Rattle.machine_model.specs.CallLaws.{QueuedAreOutOrDropped};
+ghost use Rattle.machine_model.specs.CallLaws.{StuckIsExact, TurnsMakeRuns, VictimsRunDry};
 
 /// The computed cascade of an active process is the least set.
 pub fn cascade_is_least()
@@ -57,14 +58,9 @@ pub fn victims_run_dry()
     ensures { VictimsRunDry }
 {}
 
-/// A request for any piece answers that one is stuck exactly where nobody can go on or go back.
+/// A request for any piece answers that one is stuck exactly where nobody can go on or go back, and it is the least exhausted one.
 pub fn stuck_is_exact()
     ensures { StuckIsExact }
-{}
-
-/// Whoever is stuck is the least exhausted process.
-pub fn stuck_is_exhausted()
-    ensures { StuckIsExhausted }
 {}
 
 /// The turns of several threads make a run.
@@ -155,6 +151,11 @@ pub fn flushes_keep_what_runs()
 /// Whatever is queued is out or was dropped.
 pub fn queued_are_out_or_dropped()
     ensures { QueuedAreOutOrDropped }
+{}
+
+/// A piece of the group that was dropped changes no answer to the queueing of another.
+pub fn dropped_change_no_answer()
+    ensures { DroppedChangeNoAnswer }
 {}
 
 /// At a restart all begin to complete.

@@ -14,7 +14,7 @@ use Rattle.engine_steps.specs.Groups.{record_for, with_events}
 use Rattle.engine_steps.specs.Pieces.{history_with}
 use Rattle.engine_steps.proofs.KeptEffects.{core_under, piece_made, piece_under}
 use Rattle.engine_steps.proofs.NextHistory.{history_is}
-use Rattle.process_engine.specs.Events.{GoesOnBy}
+use Rattle.history_files.specs.NextGroups.{GoesOnBy}
 use Rattle.process_engine.specs.Pieces.{AreDistinct, FitsItsBytes, IsOut, after_all, events_of, numbers_of}
 use Rattle.process_engine.proofs.GroupCores.{all_out, apart_from, next_core}
 

@@ -1,7 +1,6 @@
 -- What is queued, and which of it may take effect together.
 use Rattle.std.proofs.Common.{◌==◌, ◌≡◌, ◌≢◌, ◌∙◌, ℕ, Bool, true, false, cond, List, [], ◌∷◌, length, Option, refl, sym, ap, arith}
 use Rattle.std.proofs.lemmas.Bool.{false≢true}
-use Rattle.std.proofs.lemmas.List.{length-map}
 use Rattle.process_tree.specs.Order.{Each}
 use Rattle.process_tree.proofs.Every.{Each-both, Each-weaker}
 use Rattle.schedule_model.specs.Course.{Course}
@@ -14,9 +13,9 @@ use Rattle.process_core.specs.Cores.{CoreState, IsCore, courses_in, moment_of}
 use Rattle.engine_steps.specs.Engines.{EngineState, full_history}
 use Rattle.engine_steps.specs.Groups.{with_events}
 use Rattle.process_engine.specs.Pieces.{AreDistinct, FitsItsBytes, IsOut, after_all, events_of, numbers_of}
-use Rattle.process_engine.specs.Queues.{AreQueued, HasRoomFor, IsGroup, IsUnfinished, pieces_of, running_of}
+use Rattle.process_engine.specs.Queues.{AreQueued, HasRoomFor, IsGroup, IsUnfinished, is_step_on, pieces_of, running_of}
 use Rattle.process_engine.proofs.GroupCores.{group_taken}
-use Rattle.process_engine.proofs.Running.{each_of_some, each_passes, some_apart, some_distinct, some_fewer}
+use Rattle.process_engine.proofs.Running.{each_of_some, each_passes, some_distinct, some_fewer_pass}
 
 -- what runs is out
 runs_out : (m : Bool) (d : Option ℕ) → m ≡ true → cond m Out (dropped_or_over d) ≡ Out
@@ -45,11 +44,10 @@ may_together e group queued fits some =
     record {
       out = all_out e.core group queued.unfinished queued.distinct;
       distinct = some_distinct test (pieces_of group) queued.distinct;
-      apart = some_apart e.catalog.ops (courses_in e.core) test (pieces_of group) queued.apart;
       fits = each_of_some FitsItsBytes test (pieces_of group) fits;
       room = each_of_some (HasRoomFor e) test (pieces_of group) queued.room;
       some = some;
-      few = let few = queued.few in omega (arith, few, some_fewer test (pieces_of group), length-map group (λ (p : Handed). p.piece));
+      places = λ q s at. let fewer = some_fewer_pass test (is_step_on e.catalog.ops e.core.plans q) (pieces_of group) in let places = queued.places q s at in omega (arith, fewer, places);
     }
 
 -- no event is listed where none runs

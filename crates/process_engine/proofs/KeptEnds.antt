@@ -17,6 +17,7 @@ use Rattle.machine_model.proofs.OverPieces.{over_is_finished}
 use Rattle.process_core.specs.Answers.{after_call, answer_in}
 use Rattle.process_core.specs.Cores.{CoreState, IsCore, IsHandedBy, history_of, machine_of, moment_of, relation}
 use Rattle.std.proofs.lemmas.List.{map-append}
+use Rattle.process_engine.specs.Most.{most_queued}
 use Rattle.process_engine.specs.Ends.{end_as, ended_as}
 use Rattle.process_engine.specs.declared.group.GroupEnd.{GroupEnd}
 use Rattle.process_engine.specs.Pieces.{AreDistinct, IsOut, after_all, numbers_of}
@@ -60,7 +61,7 @@ pub record IsKeptSoFar (first : CoreState) (all : List Handed) (core : CoreState
   pub distinct : AreDistinct (numbers_of (pieces_of rest))
   pub after : after_all core (running_of core rest) ≡ after_all first (running_of first all)
   pub told : ends ++ flush_reply (moment_of core) (length (history_of core)) (numbers_of (pieces_of rest)) ≡ flush_reply (moment_of first) (length (history_of first)) (numbers_of (pieces_of all))
-  pub few : length ends + length rest ≤ 16
+  pub few : length ends + length rest ≤ most_queued
   pub some : running_of core rest ≢ [] → running_of first all ≢ []
 
 -- what is told of a piece that takes effect, and then of the others

@@ -2,12 +2,10 @@ pub mod Refusals
 pub mod FinishedPieces
 pub mod BarredPieces
 pub mod DonePieces
-pub mod GroupEffects
 pub mod GroupCores
 pub mod GroupHistories
 pub mod Running
 pub mod GroupMeets
-pub mod Places
 pub mod KeptEnds
 pub mod GroupPut
 pub mod GroupKept
@@ -17,3 +15,4 @@ pub mod QueueReplies
 pub mod StillQueued
 pub mod QueuedThen
 pub mod QueuedCalls
+pub mod FewQueued

@@ -1,6 +1,5 @@
 -- What the machine replies to the queueing of a piece.
-use Rattle.std.proofs.Common.{◌≡◌, ◌∙◌, true, false, if◌then◌else◌, ◌&&◌, ◌||◌, ℕ, List, [], ◌∷◌, length, filter, Some, refl, ap}
-use Rattle.std.specs.Prelude.{nat_le}
+use Rattle.std.proofs.Common.{◌≡◌, ◌∙◌, true, false, if◌then◌else◌, cond, ◌&&◌, ℕ, Bool, List, [], ◌∷◌, Option, Some, None, refl, sym, ap}
 use Rattle.std.specs.List.{list_any}
 use Rattle.process_tree.specs.Order.{Each}
 use Rattle.process_tree.specs.declared.play.Outcome.TheVariants.{Refused as Fails}
@@ -12,9 +11,9 @@ use Rattle.machine_model.specs.declared.replies.PieceState.TheVariants.{Out, Dro
 use Rattle.machine_model.specs.declared.replies.Refusal.{Refusal}
 use Rattle.machine_model.specs.Advance.{advance}
 use Rattle.machine_model.specs.Calls.{finish, finished}
-use Rattle.machine_model.specs.Groups.{Subsystems, Taken, is_end_piece, is_full, out_queue, over, dropped, pieces_in, queue_by, queue_piece, queue_reply, share_store}
+use Rattle.machine_model.specs.Groups.{Targets, Taken, can_be_barred, is_end_piece, is_full, out_queue, over, dropped, pieces_in, queue_by, queue_piece, queue_reply, share_key}
 use Rattle.machine_model.specs.Moment.{Piece}
-use Rattle.machine_model.specs.Pieces.{piece_of, state_of}
+use Rattle.machine_model.specs.Pieces.{dropped_or_over, piece_of, runs, state_of}
 use Rattle.machine_model.specs.Progress.{same_work}
 use Rattle.machine_model.specs.Replies.{finish_by, finish_piece, out_finish, refusal_reply, refused, refused_unless_end}
 use Rattle.machine_model.proofs.Snoc.{now-kept}
@@ -47,35 +46,46 @@ module _ (core : CoreState) (p : Piece) (handed : IsHandedBy core p) where
       ∙ ap (λ s. finished (finish_by (out_finish (relation core) (courses_in core) (moment_of core) p Fails) s)) out
       ∙ ap (λ b. finished (refused_unless_end (relation core) (courses_in core) (moment_of core) p b)) no_end)
 
-  module _ (subsystems : Subsystems) (group : List ℕ) (taken : Taken) (new : is_in p.number group ≡ false) where
+  module _ (targets : Targets) (group : List ℕ) (taken : Taken) (new : is_in p.number group ≡ false) where
     by_state : (s : PieceState) → state_of (moment_of core) p.number ≡ s
-        → queue_reply (relation core) subsystems (courses_in core) (moment_of core) group p.number taken
-        ≡ queue_by (out_queue (is_end_piece p) (is_full subsystems (courses_in core) (moment_of core) group p) refusal taken) s
+        → queue_reply (relation core) targets (courses_in core) (moment_of core) group p.number taken
+        ≡ queue_by (out_queue (is_end_piece p) (is_full targets (courses_in core) (moment_of core) group p) refusal taken) s
     by_state s is =
-        ap (queue_piece (relation core) subsystems (courses_in core) (moment_of core) group taken) found
-        ∙ ap (λ b. if b then over else queue_by (out_queue (is_end_piece p) (is_full subsystems (courses_in core) (moment_of core) group p) refusal taken) (state_of (moment_of core) p.number)) new
-        ∙ ap (queue_by (out_queue (is_end_piece p) (is_full subsystems (courses_in core) (moment_of core) group p) refusal taken)) is
+        ap (queue_piece (relation core) targets (courses_in core) (moment_of core) group taken) found
+        ∙ ap (λ b. if b then over else queue_by (out_queue (is_end_piece p) (is_full targets (courses_in core) (moment_of core) group p) refusal taken) (state_of (moment_of core) p.number)) new
+        ∙ ap (queue_by (out_queue (is_end_piece p) (is_full targets (courses_in core) (moment_of core) group p) refusal taken)) is
 
     -- of a piece that is out
-    pub out_reply : state_of (moment_of core) p.number ≡ Out → queue_reply (relation core) subsystems (courses_in core) (moment_of core) group p.number taken
-        ≡ out_queue (is_end_piece p) (is_full subsystems (courses_in core) (moment_of core) group p) refusal taken
+    pub out_reply : state_of (moment_of core) p.number ≡ Out → queue_reply (relation core) targets (courses_in core) (moment_of core) group p.number taken
+        ≡ out_queue (is_end_piece p) (is_full targets (courses_in core) (moment_of core) group p) refusal taken
     out_reply out = by_state Out out
 
-    pub dropped_reply : (k : ℕ) → state_of (moment_of core) p.number ≡ Dropped k → queue_reply (relation core) subsystems (courses_in core) (moment_of core) group p.number taken ≡ dropped k
+    pub dropped_reply : (k : ℕ) → state_of (moment_of core) p.number ≡ Dropped k → queue_reply (relation core) targets (courses_in core) (moment_of core) group p.number taken ≡ dropped k
     dropped_reply k is = by_state (Dropped k) is
 
-    pub over_reply : state_of (moment_of core) p.number ≡ Over → queue_reply (relation core) subsystems (courses_in core) (moment_of core) group p.number taken ≡ over
+    pub over_reply : state_of (moment_of core) p.number ≡ Over → queue_reply (relation core) targets (courses_in core) (moment_of core) group p.number taken ≡ over
     over_reply is = by_state Over is
 
   -- one that is queued is over
-  pub queued_reply : (subsystems : Subsystems) (group : List ℕ) (taken : Taken) → is_in p.number group ≡ true
-      → queue_reply (relation core) subsystems (courses_in core) (moment_of core) group p.number taken ≡ over
-  queued_reply subsystems group taken queued =
-      ap (queue_piece (relation core) subsystems (courses_in core) (moment_of core) group taken) found
-      ∙ ap (λ b. if b then over else queue_by (out_queue (is_end_piece p) (is_full subsystems (courses_in core) (moment_of core) group p) refusal taken) (state_of (moment_of core) p.number)) queued
+  pub queued_reply : (targets : Targets) (group : List ℕ) (taken : Taken) → is_in p.number group ≡ true
+      → queue_reply (relation core) targets (courses_in core) (moment_of core) group p.number taken ≡ over
+  queued_reply targets group taken queued =
+      ap (queue_piece (relation core) targets (courses_in core) (moment_of core) group taken) found
+      ∙ ap (λ b. if b then over else queue_by (out_queue (is_end_piece p) (is_full targets (courses_in core) (moment_of core) group p) refusal taken) (state_of (moment_of core) p.number)) queued
 
 -- whether a group is full is told by its pieces
-pub full_by : (core : CoreState) (subsystems : Subsystems) (ps : List Piece) (p : Piece) → Each (IsUnfinished core) ps
-    → is_full subsystems (courses_in core) (moment_of core) (numbers_of ps) p
-    ≡ (list_any (share_store subsystems (courses_in core) p) ps || (is_end_piece p && nat_le 8 (length (filter is_end_piece ps))))
-full_by core subsystems ps p each = ap (λ qs. list_any (share_store subsystems (courses_in core) p) qs || (is_end_piece p && nat_le 8 (length (filter is_end_piece qs)))) (group_pieces core ps each)
+pub full_by : (core : CoreState) (targets : Targets) (ps : List Piece) (p : Piece) → Each (IsUnfinished core) ps
+    → is_full targets (courses_in core) (moment_of core) (numbers_of ps) p
+    ≡ (can_be_barred targets (courses_in core) p && list_any (λ q. share_key targets (courses_in core) p q && runs (moment_of core) q.number) ps)
+full_by core targets ps p each = ap (λ qs. can_be_barred targets (courses_in core) p && list_any (λ q. share_key targets (courses_in core) p q && runs (moment_of core) q.number) qs) (group_pieces core ps each)
+
+-- a piece is out where it runs
+pub runs_by : (b : Bool) (d : Option ℕ) → cond b Out (dropped_or_over d) ≡ Out → b ≡ true
+runs_by true d is = refl
+runs_by false None is = cc
+runs_by false (Some k) is = cc
+
+-- and is dropped or over where it doesn't
+pub stops_by : (b : Bool) (d : Option ℕ) (s : PieceState) → cond b Out (dropped_or_over d) ≡ s → (s ≡ Out → ⊥) → b ≡ false
+stops_by true d s is other = absurd (other (sym is))
+stops_by false d s is other = refl

@@ -6,7 +6,7 @@ use Rattle.schedule_model.specs.Histories.{is_in}
 use Rattle.machine_model.specs.declared.kept.Work.{Work}
 use Rattle.machine_model.specs.declared.kept.Work.TheVariants.{Forward, Undo, End}
 use Rattle.machine_model.specs.declared.replies.PieceState.TheVariants.{Out}
-use Rattle.machine_model.specs.Groups.{full, is_end_piece, out_queue, queued, refused, refused_unless_end, share_store}
+use Rattle.machine_model.specs.Groups.{full, is_end_piece, out_queue, queued, refused, refused_unless_end}
 use Rattle.machine_model.specs.Pieces.{state_of}
 use Rattle.machine_model.specs.Progress.{same_work}
 use Rattle.machine_model.specs.Replies.{Handed}
@@ -19,12 +19,13 @@ use Rattle.history_files.specs.Laws.{next_effect}
 use Rattle.history_files.specs.Sound.{kind_of}
 use Rattle.engine_steps.specs.Engines.{EngineState, full_history}
 use Rattle.engine_steps.specs.Pieces.{act_of, bars_act}
+use Rattle.engine_steps.specs.Targets.{targets_of}
 use Rattle.process_engine.specs.Finishing.{is_barred}
 use Rattle.process_engine.specs.declared.gates.Answer.{Answer}
 use Rattle.process_engine.specs.declared.gates.Answer.TheVariants.{Done, Refused}
 use Rattle.process_engine.specs.Pieces.{numbers_of}
-use Rattle.process_engine.specs.Queueing.{IsRefusal, IsRefusedIn, Leaves, refusal_of, reply_to, taken_by}
-use Rattle.process_engine.specs.Queues.{AreQueued, HasRoomFor, pieces_of}
+use Rattle.process_engine.specs.Queueing.{IsRefusal, IsRefusedIn, Leaves, are_full, refusal_of, reply_to, taken_by}
+use Rattle.process_engine.specs.Queues.{AreQueued, pieces_of}
 use Rattle.process_engine.specs.declared.replies.Queue.{Queue}
 use Rattle.process_engine.specs.declared.replies.Queue.TheVariants as answers
 use Rattle.process_engine.proofs.QueueReplies.{full_by, out_reply}
@@ -45,12 +46,11 @@ module _ {R B : Type 0} (e : EngineState R B) (group : List Handed) (d : Handed)
     (out : state_of (moment_of e.core) d.piece.number ≡ Out) (new : is_in d.piece.number (numbers_of (pieces_of group)) ≡ false) where
   -- the group is full for the piece
   abbrev pub has_no_place : Bool
-  has_no_place = list_any (share_store (subsystem_of e.catalog.ops) (courses_in e.core) d.piece) (pieces_of group)
-      || (is_end_piece d.piece && nat_le 8 (length (filter is_end_piece (pieces_of group))))
+  has_no_place = are_full e (pieces_of group) d.piece
 
   replied : (answer : Answer) → reply_to e group d answer ≡ out_queue (is_end_piece d.piece) has_no_place (refusal_of e d.piece) (taken_by answer (is_barred e d.piece))
-  replied answer = out_reply e.core d.piece handed (subsystem_of e.catalog.ops) (numbers_of (pieces_of group)) (taken_by answer (is_barred e d.piece)) new out
-      ∙ ap (λ b. out_queue (is_end_piece d.piece) b (refusal_of e d.piece) (taken_by answer (is_barred e d.piece))) (full_by e.core (subsystem_of e.catalog.ops) (pieces_of group) d.piece all.unfinished)
+  replied answer = out_reply e.core d.piece handed (targets_of e.catalog.ops) (numbers_of (pieces_of group)) (taken_by answer (is_barred e d.piece)) new out
+      ∙ ap (λ b. out_queue (is_end_piece d.piece) b (refusal_of e d.piece) (taken_by answer (is_barred e d.piece))) (full_by e.core (targets_of e.catalog.ops) (pieces_of group) d.piece all.unfinished)
 
   full_then : (b : Bool) → out_queue (is_end_piece d.piece) true (refusal_of e d.piece) (taken_by Done b) ≡ full
   full_then true = refl
@@ -90,20 +90,13 @@ barred_end e d is = ap (λ w. cond (same_work w End) false (bars_act e.catalog.o
 
 -- the group is full as its pieces, wherever they lie, say
 pub full_for : {R B : Type 0} (e : EngineState R B) (seen group : List Handed) (d : Handed) (b t : Bool) → seen ≡ group
-    → b ≡ (list_any (share_store (subsystem_of e.catalog.ops) (courses_in e.core) d.piece) (pieces_of seen) || (is_end_piece d.piece && nat_le 8 (length (filter is_end_piece (pieces_of seen))))) → b ≡ t
-    → (list_any (share_store (subsystem_of e.catalog.ops) (courses_in e.core) d.piece) (pieces_of group) || (is_end_piece d.piece && nat_le 8 (length (filter is_end_piece (pieces_of group))))) ≡ t
-full_for e seen group d b t same is told =
-    subst (λ ps. (list_any (share_store (subsystem_of e.catalog.ops) (courses_in e.core) d.piece) (pieces_of ps) || (is_end_piece d.piece && nat_le 8 (length (filter is_end_piece (pieces_of ps))))) ≡ t) same (sym is ∙ told)
+    → b ≡ are_full e (pieces_of seen) d.piece → b ≡ t → are_full e (pieces_of group) d.piece ≡ t
+full_for e seen group d b t same is told = subst (λ ps. are_full e (pieces_of ps) d.piece ≡ t) same (sym is ∙ told)
 
 -- an undo isn't barred, and neither is an end
 pub free_back : {R B : Type 0} (e : EngineState R B) (d : Handed) → (d.piece.work ≡ Undo) ⊎ (d.piece.work ≡ End) → is_barred e d.piece ≡ false
 free_back e d (inl undo) = barred_undo e d undo
 free_back e d (inr end) = barred_end e d end
-
--- and needs no room
-pub no_room_back : {R B : Type 0} (e : EngineState R B) (d : Handed) → (d.piece.work ≡ Undo) ⊎ (d.piece.work ≡ End) → HasRoomFor e d.piece
-no_room_back e d (inl undo) forward = absurd (let same : Undo ≡ Forward = sym undo ∙ forward in cc)
-no_room_back e d (inr end) forward = absurd (let same : End ≡ Forward = sym end ∙ forward in cc)
 
 pub work_by : (w v : Work) → v ≡ w → (v ≡ Undo) ⊎ (v ≡ End) → (w ≡ Undo) ⊎ (w ≡ End)
 work_by w v same (inl undo) = inl (sym same ∙ undo)

@@ -1,17 +1,10 @@
 -- The pieces of a group that run.
-use Rattle.std.proofs.Common.{◌≡◌, ◌≤◌, eqb, ℕ, Bool, true, false, cond, List, [], ◌∷◌, length, filter, refl, arith}
+use Rattle.std.proofs.Common.{◌≡◌, ◌≤◌, eqb, ℕ, Bool, true, false, cond, List, [], ◌∷◌, length, filter, refl, sym, subst, arith}
 use Rattle.std.proofs.lemmas.Bool.{or_parts}
 use Rattle.process_tree.specs.Order.{Each}
-use Rattle.schedule_model.specs.declared.event.Event.{Event}
-use Rattle.schedule_model.specs.declared.event.Event.TheVariants.{Start, Act, End}
-use Rattle.schedule_model.specs.Course.{Course}
 use Rattle.schedule_model.specs.Histories.{is_in}
-use Rattle.commute_table.specs.declared.op.Op.{Op}
-use Rattle.machine_model.specs.Advance.{event_of}
 use Rattle.machine_model.specs.Moment.{Piece}
-use Rattle.process_engine.specs.Events.{AreApart, IsBeside}
-use Rattle.process_engine.specs.Pieces.{AreDistinct, events_of, numbers_of}
-use Rattle.history_files.specs.Effects.{subsystem_of}
+use Rattle.process_engine.specs.Pieces.{AreDistinct, numbers_of}
 
 -- of some of them: what holds of each holds of each of these,
 pub each_of_some : {A : Type 0} (P : A → Type 0) (t : A → Bool) (xs : List A) → Each P xs → Each P (filter t xs)
@@ -40,7 +33,7 @@ some_fewer t (x ∷ xs) = by (t x) (some_fewer t xs)
     by true rest = omega (arith, rest)
     by false rest = omega (arith, rest)
 
--- their numbers are distinct,
+-- and their numbers are distinct
 none_of_some : (n : ℕ) (t : Piece → Bool) (ps : List Piece) → is_in n (numbers_of ps) ≡ false → is_in n (numbers_of (filter t ps)) ≡ false
 none_of_some n t [] none = refl
 none_of_some n t (p ∷ ps) none = by (t p) (or_parts (eqb n p.number) (is_in n (numbers_of ps)) none).0 (none_of_some n t ps (or_parts (eqb n p.number) (is_in n (numbers_of ps)) none).1)
@@ -57,32 +50,14 @@ some_distinct t (p ∷ ps) distinct = by (t p) (none_of_some p.number t ps disti
     by true none rest = (none, rest)
     by false none rest = rest
 
--- and their acts are apart
-beside_of_some : (ops : List Op) (courses : List Course) (q : ℕ) (t : Piece → Bool) (ps : List Piece) → Each (IsBeside ops q) (events_of courses ps) → Each (IsBeside ops q) (events_of courses (filter t ps))
-beside_of_some ops courses q t [] beside = tt
-beside_of_some ops courses q t (p ∷ ps) beside = by (t p) (beside_of_some ops courses q t ps beside.1)
+-- of those that pass one test as many pass another as of all, or fewer
+pub some_fewer_pass : {A : Type 0} (t u : A → Bool) (xs : List A) → length (filter u (filter t xs)) ≤ length (filter u xs)
+some_fewer_pass t u [] = omega arith
+some_fewer_pass t u (x ∷ xs) = by (t x) (u x) refl (some_fewer_pass t u xs)
   where
-    by : (b : Bool) → Each (IsBeside ops q) (events_of courses (filter t ps)) → Each (IsBeside ops q) (events_of courses (cond b (p ∷ filter t ps) (filter t ps)))
-    by true rest = (beside.0, rest)
-    by false rest = rest
-
--- one event more in front, which was apart from more
-apart_in_front : (ops : List Op) (e : Event) (es rest : List Event) → ((q : ℕ) → Each (IsBeside ops q) es → Each (IsBeside ops q) rest) → AreApart ops (e ∷ es) → AreApart ops rest → AreApart ops (e ∷ rest)
-apart_in_front ops (Start i) es rest fewer was apart = was
-apart_in_front ops (End i) es rest fewer was apart = apart
-apart_in_front ops (Act e) es rest fewer was apart = (fewer (subsystem_of ops e.op) was.0, apart)
-
-apart_behind : (ops : List Op) (e : Event) (es : List Event) → AreApart ops (e ∷ es) → AreApart ops es
-apart_behind ops (Start i) es apart = absurd apart
-apart_behind ops (End i) es apart = apart
-apart_behind ops (Act e) es apart = apart.1
-
-pub some_apart : (ops : List Op) (courses : List Course) (t : Piece → Bool) (ps : List Piece) → AreApart ops (events_of courses ps) → AreApart ops (events_of courses (filter t ps))
-some_apart ops courses t [] apart = tt
-some_apart ops courses t (p ∷ ps) apart =
-    by (t p) (some_apart ops courses t ps (apart_behind ops (event_of courses p) (events_of courses ps) apart)) (λ q. beside_of_some ops courses q t ps)
-  where
-    by : (b : Bool) → AreApart ops (events_of courses (filter t ps)) → ((q : ℕ) → Each (IsBeside ops q) (events_of courses ps) → Each (IsBeside ops q) (events_of courses (filter t ps)))
-        → AreApart ops (events_of courses (cond b (p ∷ filter t ps) (filter t ps)))
-    by true rest fewer = apart_in_front ops (event_of courses p) (events_of courses ps) (events_of courses (filter t ps)) fewer apart rest
-    by false rest fewer = rest
+    by : (b d : Bool) → u x ≡ d → length (filter u (filter t xs)) ≤ length (filter u xs)
+        → length (filter u (cond b (x ∷ filter t xs) (filter t xs))) ≤ length (cond d (x ∷ filter u xs) (filter u xs))
+    by true true is rest = subst (λ c. length (cond c (x ∷ filter u (filter t xs)) (filter u (filter t xs))) ≤ length (x ∷ filter u xs)) (sym is) (omega (arith, rest))
+    by true false is rest = subst (λ c. length (cond c (x ∷ filter u (filter t xs)) (filter u (filter t xs))) ≤ length (filter u xs)) (sym is) rest
+    by false true is rest = omega (arith, rest)
+    by false false is rest = rest

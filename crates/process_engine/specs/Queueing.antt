@@ -10,15 +10,16 @@ use Rattle.machine_model.specs.Advance.{advance}
 use Rattle.machine_model.specs.Moment.{Piece}
 use Rattle.machine_model.specs.declared.replies.Refusal.TheVariants.{Retry as TryAgain, Alternative, RollBack, Exhausted as UsedUp}
 use Rattle.machine_model.specs.Calls.{finish}
-use Rattle.machine_model.specs.Groups.{Subsystems, Taken, as_done, as_refused, as_barred}
+use Rattle.machine_model.specs.Groups.{Targets, Taken, as_done, as_refused, as_barred}
 use Rattle.machine_model.specs.Groups.{Queue as Reply, queued, full, refused, over, dropped}
-use Rattle.machine_model.specs.Groups.{is_end_piece, queue_reply, share_store}
+use Rattle.machine_model.specs.Groups.{can_be_barred, queue_reply, share_key}
+use Rattle.machine_model.specs.Pieces.{runs}
 use Rattle.machine_model.specs.Replies.{Handed, refusal_reply}
 use Rattle.process_core.specs.Answers.{after_call}
 use Rattle.process_core.specs.Cores.{CoreState, courses_in, moment_of, relation}
-use Rattle.history_files.specs.Effects.{subsystem_of}
 use Rattle.engine_steps.specs.Engines.{EngineState, with_core}
 use Rattle.engine_steps.specs.Rooms.{MakesRoomFor}
+use Rattle.engine_steps.specs.Targets.{targets_of}
 use Rattle.process_engine.specs.Finishing.{is_barred}
 use Rattle.process_engine.specs.declared.gates.Answer.{Answer}
 use Rattle.process_engine.specs.declared.gates.Answer.TheVariants.{Done, Refused as IsRefused}
@@ -34,14 +35,14 @@ taken_by IsRefused barred = as_refused
 taken_by Done true = as_barred
 taken_by Done false = as_done
 
--- the reply of a core's machine to the queueing of piece n behind a group, by the subsystem of each operation
-abbrev pub queue_reply_in : CoreState → Subsystems → List ℕ → ℕ → Taken → Reply
-queue_reply_in c subsystems group n taken = queue_reply (relation c) subsystems (courses_in c) (moment_of c) group n taken
+-- the reply of a core's machine to the queueing of piece n behind a group, by the target of each operation
+abbrev pub queue_reply_in : CoreState → Targets → List ℕ → ℕ → Taken → Reply
+queue_reply_in c targets group n taken = queue_reply (relation c) targets (courses_in c) (moment_of c) group n taken
 
 -- the machine's reply to the queueing of a piece
 abbrev pub reply_to : {R B : Type 0} → EngineState R B → List Handed → Handed → Answer → Reply
 reply_to e group p answer =
-    queue_reply_in e.core (subsystem_of e.catalog.ops) (numbers_of (pieces_of group)) p.piece.number
+    queue_reply_in e.core (targets_of e.catalog.ops) (numbers_of (pieces_of group)) p.piece.number
     (taken_by answer (is_barred e p.piece))
 
 -- The answer is the machine's reply; where memory was wanting, the piece would have been queued.
@@ -95,9 +96,17 @@ IsRefusal Exhausted = ⊤
 IsRefusal (NoMemory p) = ⊥
 IsRefusal (Closed n) = ⊥
 
+-- of pieces, one that runs acts at the key of this one
+abbrev pub is_any_at : {R B : Type 0} → EngineState R B → List Piece → Piece → Bool
+is_any_at e ps p =
+    list_any (λ q. share_key (targets_of e.catalog.ops) (courses_in e.core) p q && runs (moment_of e.core) q.number) ps
+
+-- pieces are full for one that values can bar, where such a one runs
+abbrev pub are_full : {R B : Type 0} → EngineState R B → List Piece → Piece → Bool
+are_full e ps p = can_be_barred (targets_of e.catalog.ops) (courses_in e.core) p && is_any_at e ps p
+
 -- a piece isn't queued, and the group isn't full for it
 pub record HasPlace {R B : Type 0} (e : EngineState R B) (group : List Handed) (p : Piece) : Type 0 where
   pub queued : AreQueued e group
   pub new : is_in p.number (numbers_of (pieces_of group)) ≡ false
-  pub free : list_any (share_store (subsystem_of e.catalog.ops) (courses_in e.core) p) (pieces_of group) ≡ false
-  pub few : (is_end_piece p && nat_le 8 (length (filter is_end_piece (pieces_of group)))) ≡ false
+  pub free : are_full e (pieces_of group) p ≡ false

@@ -5,7 +5,6 @@ ghost use Rattle.process_disk.specs.Disk.{Told};
 ghost use Rattle.process_disk.specs.Images.{EachImage};
 ghost use Rattle.process_disk.specs.Racks.{LeavesImages};
 ghost use Rattle.process_core.specs.Cores.{courses_in, history_of, moment_of};
-ghost use Rattle.schedule_model.specs.Histories.{acts};
 ghost use Rattle.machine_model.specs.Moment.{Piece as MachinePiece};
 ghost use Rattle.history_files.specs.Sound.{IsSoundForEither};
 ghost use Rattle.history_files.specs.Standing.{EachFits};
@@ -14,23 +13,21 @@ ghost use Rattle.machine_model.specs.Groups.{flush_reply};
 ghost use Rattle.engine_steps.specs.Groups.{IsGroupCommitted, LeavesCore, with_events};
 ghost use Rattle.engine_steps.specs.declared.engines.Phase.TheVariants as phase;
 ghost use Rattle.process_engine.specs.Pieces.{AreDistinct, FitsItsBytes, after_all, events_of, numbers_of};
-ghost use Rattle.process_engine.specs.Events.{ListsEffects};
+ghost use Rattle.process_engine.specs.Most.{most_queued};
 ghost use Rattle.process_engine.specs.Flushing.{Flushes, IsFlushed, history_with_group};
 ghost use Rattle.process_engine.specs.Queues.{AreQueued, IsUnfinished, IsGroup, pieces_of, running_of};
 
 use crate::Queued;
-use crate::effects::{effects_fit, effects_of};
 use crate::group::{Flush, Group, GroupEnd};
 use arrayvec::ArrayVec;
 use engine_steps::{Closed, Engine};
 use gate_log::DiskFault;
-use history_files::{events_add_effects, next_effects_may_be_prepared};
+use history_files::groups_may_be_prepared;
 use process_core::{Piece, PieceState};
 use process_disk::Rack;
 use process_journal::journals_keep_histories;
 use resource_box::Resource;
 use schedule_model::Event;
-use store_group::Effects;
 
 // The events of the pieces that run, behind those that are listed.
 fn list_events<R: Rack + Drop, B: Resource>(
@@ -64,21 +61,6 @@ fn pieces_fit(pieces: &[Piece])
     }
 }
 
-// The effects of events that are to be recorded behind the history.
-fn group_of<R: Rack + Drop, B: Resource>(engine: &Engine<R, B>, events: &[Event]) -> [Effects; 8]
-    requires few { length events.now ≤ 16 }
-    ensures { ListsEffects engine.now.catalog.ops engine.now.core.plans (length (acts (history_of engine.now.core))) events.now
-        result }
-{
-    engine.invariant_holds();
-    effects_of(
-        engine.catalog().ops.as_slice(),
-        engine.history().plans.as_slice(),
-        engine.acts(),
-        events,
-    )
-}
-
 /// The events of a group are prepared, recorded and committed. A crash leaves files that are sound for the history without them or
 /// with all of them.
 pub(crate) fn put_group<R: Rack + Drop, B: Resource>(
@@ -98,14 +80,11 @@ pub(crate) fn put_group<R: Rack + Drop, B: Resource>(
     ensures fits { EachFits B.Resource engine.new.files.stores }
     ensures rack { LeavesImages R.Rack engine.old.files.rack engine.new.files.rack (IsErr result) }
 {
-    events_add_effects();
-    next_effects_may_be_prepared();
+    groups_may_be_prepared();
     journals_keep_histories();
     engine.invariant_holds();
     engine.stores_hold();
-    let group = group_of(engine, events);
-    effects_fit(&group);
-    engine.prepare_group(&group, events)?;
+    engine.prepare_group(events)?;
     engine.record_group()?;
     engine.commit_group()
 }
@@ -118,7 +97,7 @@ fn keep_each<R: Rack + Drop, B: Resource>(
     requires under_way { running_of engine.old.core pieces.old.items ≢ [] → engine.old.phase ≡ phase.UnderWay }
     requires unfinished { Each (IsUnfinished engine.old.core) (pieces_of pieces.old.items) }
     requires distinct { AreDistinct (numbers_of (pieces_of pieces.old.items)) }
-    requires few { length pieces.old.items ≤ 16 }
+    requires few { length pieces.old.items ≤ most_queued }
     ensures engine { engine.new ≡ with_core engine.old (after_all engine.old.core (running_of engine.old.core pieces.old.items)) }
     ensures ends { result ≡ flush_reply (moment_of engine.old.core) (length (history_of engine.old.core))
         (numbers_of (pieces_of pieces.old.items)) }
@@ -152,6 +131,7 @@ fn drop_group<R: Rack + Drop, B: Resource>(
     ensures same { engine.new ≡ engine.old }
     ensures capacity { vec_capacity pieces.new ≡ vec_capacity pieces.old }
 {
+    engine.invariant_holds();
     keep_each(engine, pieces)
 }
 
@@ -162,7 +142,7 @@ fn keep_group<R: Rack + Drop, B: Resource>(
 ) -> Group
     requires unfinished { Each (IsUnfinished engine.old.core) (pieces_of pieces.old.items) }
     requires distinct { AreDistinct (numbers_of (pieces_of pieces.old.items)) }
-    requires few { length pieces.old.items ≤ 16 }
+    requires few { length pieces.old.items ≤ most_queued }
     requires committed { IsGroupCommitted engine.old (R.disk engine.old.files.rack)
         (history_with_group engine.old pieces.old.items) }
     ensures flushed { IsFlushed engine.old engine.new pieces.old.items pieces.new.items result }
@@ -191,9 +171,9 @@ fn flush_listed<R: Rack + Drop, B: Resource>(
     ensures fits { EachFits B.Resource engine.new.files.stores }
     ensures rack { LeavesImages R.Rack engine.old.files.rack engine.new.files.rack (result ≡ Flush.DiskFault) }
 {
+    engine.invariant_holds();
     pieces_fit(pieces);
     if events.is_empty() {
-        engine.invariant_holds();
         return Flush::Flushed(drop_group(engine, pieces));
     }
     if put_group(engine, events).is_err() {

@@ -3,6 +3,7 @@ ghost use Rattle.std.specs.Prelude.{◌≡◌, ◌<◌, length, Some};
 ghost use Rattle.process_engine.specs.Ends.{ended_as};
 ghost use Rattle.std.specs.List.{slice_get};
 
+use crate::MOST_QUEUED;
 use arrayvec::ArrayVec;
 use std::marker::Model;
 
@@ -24,7 +25,7 @@ impl Default for GroupEnd {
 /// What became of the pieces of a group, in the order in which they were queued: the number of each with its end.
 #[derive(Drop)]
 pub struct Group {
-    pub(crate) ends: ArrayVec<(u32, GroupEnd), 16>,
+    pub(crate) ends: ArrayVec<(u32, GroupEnd), MOST_QUEUED>,
 }
 
 impl Model for Group {

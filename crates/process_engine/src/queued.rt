@@ -2,12 +2,12 @@
 ghost use Rattle.std.specs.Prelude.{◌≡◌, [], length, IfOk};
 
 use process_core::Piece;
-use schedule_model::Event;
+use schedule_model::{Event, MOST_ACTIVE};
 use std::alloc::{AllocError, Global};
 use std::marker::Model;
 
-/// How many pieces may be queued: one act on each of eight subsystems, and eight ends.
-pub const MOST_QUEUED: usize = 16;
+/// How many pieces may be queued: of each process that is active one that runs, and one that was dropped.
+pub const MOST_QUEUED: usize = 2 * MOST_ACTIVE;
 
 /// Pieces that are queued at an engine, to take effect together.
 #[derive(Drop)]
@@ -20,12 +20,14 @@ pub struct Queued {
 impl Model for Queued {
     ghost use Rattle.std.specs.Prelude.{◌≡◌, ◌≤◌, [], List, vec_capacity};
     ghost use Rattle.machine_model.specs.Replies.{Handed};
+    ghost use Rattle.process_engine.specs.Most.{most_queued};
 
     ghost Value = { List Handed };
 
     ghost view = { λ q. q.pieces.items };
 
-    ghost invariant = { λ q. (q.events.items ≡ []) × (16 ≤ vec_capacity q.events) × (16 ≤ vec_capacity q.pieces) };
+    ghost invariant = { λ q. (q.events.items ≡ []) × (most_queued ≤ vec_capacity q.events)
+        × (most_queued ≤ vec_capacity q.pieces) };
 }
 
 impl Queued {

@@ -1,19 +1,20 @@
 // A piece is queued.
-ghost use Rattle.std.specs.Prelude.{◌≡◌, ◌≢◌, ◌<◌, ◌&&◌, ◌||◌, ◌++◌, ◌∷◌, [], false, filter, length, nat_le};
-ghost use Rattle.std.specs.List.{list_any};
+ghost use Rattle.std.specs.Prelude.{◌≡◌, ◌≢◌, ◌<◌, ◌++◌, ◌∷◌, [], false, length};
+ghost use Rattle.process_tree.specs.Order.{Each};
 ghost use Rattle.schedule_model.specs.Histories.{is_in};
 ghost use Rattle.machine_model.specs.declared.kept.Work.TheVariants.{End, Forward};
 ghost use Rattle.machine_model.specs.declared.replies.PieceState.TheVariants.{Out};
-ghost use Rattle.machine_model.specs.Groups.{is_end_piece, refused, share_store};
-ghost use Rattle.machine_model.specs.Pieces.{state_of};
+ghost use Rattle.machine_model.specs.Groups.{can_be_barred, is_end_piece, refused, share_key};
+ghost use Rattle.machine_model.specs.Pieces.{runs, state_of};
 ghost use Rattle.process_core.specs.Cores.{IsHandedBy, courses_in, moment_of};
-ghost use Rattle.history_files.specs.Effects.{subsystem_of};
 ghost use Rattle.history_files.specs.Standing.{EachFits};
 ghost use Rattle.engine_steps.specs.Pieces.{IsStepOut};
+ghost use Rattle.engine_steps.specs.Targets.{targets_of};
 ghost use Rattle.engine_steps.specs.declared.engines.Phase.TheVariants as phase;
 ghost use Rattle.process_engine.specs.Pieces.{numbers_of};
-ghost use Rattle.process_engine.specs.Queueing.{HasPlace, IsRefusal, IsRefusedIn, Queues, RepliesAs, refusal_of};
-ghost use Rattle.process_engine.specs.Queues.{AreQueued, pieces_of};
+ghost use Rattle.process_engine.specs.Queueing.{HasPlace, IsRefusal, IsRefusedIn, Queues, RepliesAs, are_full, is_any_at, refusal_of};
+ghost use Rattle.process_engine.specs.Most.{most_queued};
+ghost use Rattle.process_engine.specs.Queues.{AreQueued, IsUnfinished, pieces_of};
 
 use crate::replies::Queue;
 use crate::{Answer, Queued};
@@ -47,16 +48,14 @@ fn has_number(pieces: &[Piece], number: u32) -> bool
     false
 }
 
-// Whether two pieces need one store: no end does.
-fn share_store<R: Rack + Drop, B: Resource>(
-    engine: &Engine<R, B>,
-    one: &Piece,
-    other: &Piece,
-) -> bool
-    ensures { result ≡ share_store (subsystem_of engine.now.catalog.ops) (courses_in engine.now.core) one.now.piece
-        other.now.piece }
+// Whether two pieces act at one key: no end does.
+fn share_key<R: Rack + Drop, B: Resource>(engine: &Engine<R, B>, one: &Piece, other: &Piece) -> bool
+    ensures { result ≡ share_key (targets_of engine.now.catalog.ops) (courses_in engine.now.core) one.now.piece other.now.piece }
 {
-    !is_end(one) && !is_end(other) && engine.subsystem(one) == engine.subsystem(other)
+    !is_end(one)
+        && !is_end(other)
+        && engine.subsystem(one) == engine.subsystem(other)
+        && engine.key(one) == engine.key(other)
 }
 
 // Whether a piece is the end of a process.
@@ -69,18 +68,29 @@ fn is_end(piece: &Piece) -> bool
     }
 }
 
-// Whether one of the pieces needs the store that this piece needs.
-fn is_store_taken<R: Rack + Drop, B: Resource>(
+// Whether a piece that this engine handed out runs.
+fn is_out<R: Rack + Drop, B: Resource>(engine: &Engine<R, B>, piece: &Piece) -> bool
+    requires handed { IsHandedBy engine.now.core piece.now.piece }
+    ensures { result ≡ runs (moment_of engine.now.core) piece.now.piece.number }
+{
+    match engine.state(piece) {
+        PieceState::Out => true,
+        PieceState::Dropped(_) | PieceState::Over => false,
+    }
+}
+
+// Whether one of the pieces runs and acts at the key of this piece.
+fn is_any_at<R: Rack + Drop, B: Resource>(
     engine: &Engine<R, B>,
     pieces: &[Piece],
     piece: &Piece,
 ) -> bool
-    ensures { result ≡ list_any (share_store (subsystem_of engine.now.catalog.ops) (courses_in engine.now.core) piece.now.piece)
-        (pieces_of pieces.now) }
+    requires unfinished { Each (IsUnfinished engine.now.core) (pieces_of pieces.now) }
+    ensures { result ≡ is_any_at engine.now (pieces_of pieces.now) piece.now.piece }
 {
     let mut rest = pieces;
     while let [other, after @ ..] = rest {
-        if share_store(engine, piece, other) {
+        if share_key(engine, piece, other) && is_out(engine, other) {
             return true;
         }
         rest = after;
@@ -88,19 +98,14 @@ fn is_store_taken<R: Rack + Drop, B: Resource>(
     false
 }
 
-// How many of the pieces are ends.
-fn ends_among(pieces: &[Piece]) -> usize
-    ensures { result ≡ length (filter is_end_piece (pieces_of pieces.now)) }
+// Whether values can bar a piece: a forward step of such an operation.
+fn can_be_barred<R: Rack + Drop, B: Resource>(engine: &Engine<R, B>, piece: &Piece) -> bool
+    ensures { result ≡ can_be_barred (targets_of engine.now.catalog.ops) (courses_in engine.now.core) piece.now.piece }
 {
-    let mut count = 0;
-    let mut rest = pieces;
-    while let [piece, after @ ..] = rest {
-        if is_end(piece) {
-            count += 1;
-        }
-        rest = after;
+    match piece.work() {
+        Work::Forward => engine.has_bar(piece),
+        Work::Undo | Work::End => false,
     }
-    count
 }
 
 // Whether there is no place for a piece among these.
@@ -109,16 +114,15 @@ fn is_full<R: Rack + Drop, B: Resource>(
     pieces: &[Piece],
     piece: &Piece,
 ) -> bool
-    ensures { result ≡ (list_any (share_store (subsystem_of engine.now.catalog.ops) (courses_in engine.now.core) piece.now.piece)
-        (pieces_of pieces.now)
-        || (is_end_piece piece.now.piece && nat_le 8 (length (filter is_end_piece (pieces_of pieces.now))))) }
+    requires unfinished { Each (IsUnfinished engine.now.core) (pieces_of pieces.now) }
+    ensures { result ≡ are_full engine.now (pieces_of pieces.now) piece.now.piece }
 {
-    is_store_taken(engine, pieces, piece) || (is_end(piece) && 8 <= ends_among(pieces))
+    can_be_barred(engine, piece) && is_any_at(engine, pieces, piece)
 }
 
 // A piece comes behind those that are queued.
 fn put_in(queued: &mut Queued, piece: Piece)
-    requires { length queued.old < 16 }
+    requires { length queued.old < most_queued }
     ensures { queued.new ≡ queued.old ++ piece ∷ [] }
 {
     queued.pieces.push_reserved(piece);

@@ -6,7 +6,7 @@ use process_core::Piece;
 pub enum Queue {
     /// It takes effect with the next flush, unless its process begins to complete before.
     Queued,
-    /// A queued act is on the same subsystem, or the piece is an end and eight ends are queued.
+    /// Values can bar it, and a queued act that runs is at the same key of the same subsystem.
     Full(Piece),
     /// It was refused, and may be tried again; it was refused so often.
     Retry(u8),

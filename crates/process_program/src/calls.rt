@@ -128,6 +128,7 @@ fn uses_files(command: Option<Command>) -> bool
     match command {
         None
         | Some(Command::Check)
+        | Some(Command::Expand)
         | Some(Command::Verify)
         | Some(
             Command::Gen {

@@ -1,12 +1,12 @@
 -- What is answered does what its command is for, where no call failed.
-use Rattle.std.proofs.Common.{◌≡◌, ◌≤◌, ◌⊎◌, ⊎_elim, ℕ, Bool, true, false, List, [], ◌∷◌, length, Option, Some, None, IfSome, Result, Ok, Err, refl, sym, ap, subst, ◌∙◌, inl, inr}
+use Rattle.std.proofs.Common.{◌≡◌, ◌≤◌, ◌⊎◌, ⊎_elim, ℕ, Bool, true, false, List, [], ◌∷◌, length, Option, Some, None, IfSome, Result, Ok, Err, refl, sym, ap, subst, ◌∙◌, inl, inr, arith}
 use Rattle.std.specs.Prelude.{⊤}
 use Rattle.std.proofs.Math.Nat.{le_trans}
 use Rattle.process_flow.specs.Causes.{Rose}
 use Rattle.trace_verify.specs.declared.verdict.Verified.{Verified}
 use Rattle.trace_verify.specs.Verdicts.{verdict}
 use Rattle.program_words.specs.declared.reading.Command.{Command}
-use Rattle.program_words.specs.declared.reading.Command.TheVariants.{Check, Init, Run, Session, Serve, Restart, Show, Replay, Verify, Audit, Gen, Bulk, Help, Version}
+use Rattle.program_words.specs.declared.reading.Command.TheVariants.{Check, Expand, Init, Run, Session, Serve, Restart, Show, Replay, Verify, Audit, Gen, Bulk, Help, Version}
 use Rattle.command_refusals.specs.Statuses.{IsOneOf}
 use Rattle.command_refusals.specs.declared.status.Status.{Status}
 use Rattle.command_refusals.specs.declared.status.Status.TheVariants.{Done, Exhausted, NoMemory}
@@ -17,7 +17,7 @@ use Rattle.command_refusals.specs.declared.refusal.Refusal.TheVariants as refusa
 use Rattle.command_refusals.specs.Refusals.{report_status, refusal_status}
 use Rattle.command_refusals.specs.Verdicts.{any_fault}
 use Rattle.process_top.specs.Worlds.{World, Input, Files}
-use Rattle.command_input.specs.Inputs.{most_input, first_refusal, input_tests, text_tests, IsRefused}
+use Rattle.command_input.specs.Inputs.{most_input, first_refusal, input_tests, text_refusal, text_tests, HasNoText, IsRefused}
 use Rattle.process_top.specs.Replies.{Reply, checked, created, ended, served, shown, accepted, printed, refused, status_of, IsReplyTold}
 use Rattle.process_top.specs.Told.{Output}
 use Rattle.process_top.specs.Said.{HasWorked, IsResultTold}
@@ -42,7 +42,14 @@ use Rattle.process_top.specs.Verify.{verdict_of, verified_status, IsVerifyDue, I
 use Rattle.process_top.specs.Commands.{IsDueTo, IsQuiet, DoesItsWork}
 use Rattle.command_input.proofs.InputRefusals.{is_within}
 use Rattle.init_run.specs.Init.{IsInitComplete}
-use Rattle.init_run.proofs.MadeWell.{not_created_quietly}
+use Rattle.init_run.proofs.MadeWell.{not_created_quietly, not_held_quietly}
+use Rattle.text_words.specs.Words.{words_of}
+use Rattle.process_text.specs.Places.{text_error}
+use Rattle.process_text.specs.declared.error.TextError.{TextError}
+use Rattle.process_expand.specs.Expand.{expansion, IsNoPlain}
+use Rattle.process_expand.specs.Expansion.{IsTooLong}
+use Rattle.process_expand.specs.Reading.{fault_of, tokens_of}
+use Rattle.process_top.specs.Expand.{IsExpandDue, IsExpandComplete, IsNotExpanded}
 use Rattle.replay_run.specs.Replay.{found_status, IsReplayComplete}
 use Rattle.process_top.specs.Audit.{IsAuditComplete, IsHistoryAuditComplete}
 use Rattle.process_top.proofs.Wanting.{audit_wanting, history_wanting, replay_wanting, told_so}
@@ -66,23 +73,58 @@ check_done : (left : Option (List ℕ)) (faults : ℕ) (after : Input) (reply : 
 check_done None faults after reply status due is quiet = tt
 check_done (Some text) faults after reply status due is quiet = check_ends text faults after reply status due is quiet
 
--- an init
-init_ends : (values : Bool) (text : List ℕ) (faults : ℕ) (after : Input) (files files_after : Files) (reply : Reply) (status : Status) → IsInitDue values (given (Some text) faults) after files files_after reply → status ≡ status_of reply
-    → ¬ Rose faults after.faults → ¬ Rose files.faults files_after.faults → IsInitComplete values (given (Some text) faults) files.disk status
-init_ends values text faults after files files_after created status due is quiet quiet_files c within has sound told empty = inl is
-init_ends values text faults after files files_after (refused r) status due is quiet quiet_files c within has sound told empty =
-    inr (inl (is ∙ not_created_quietly values r text faults after files files_after c due quiet quiet_files within has sound told empty))
-init_ends values text faults after files files_after (checked ps vs) status due is quiet quiet_files c within has sound told empty = absurd due
-init_ends values text faults after files files_after (ended said) status due is quiet quiet_files c within has sound told empty = absurd due
-init_ends values text faults after files files_after (served said at) status due is quiet quiet_files c within has sound told empty = absurd due
-init_ends values text faults after files files_after (shown d h) status due is quiet quiet_files c within has sound told empty = absurd due
-init_ends values text faults after files files_after accepted status due is quiet quiet_files c within has sound told empty = absurd due
-init_ends values text faults after files files_after (printed said) status due is quiet quiet_files c within has sound told empty = absurd due
+-- an expansion
+no_text_given : (r : Refusal) (text : List ℕ) (faults : ℕ) (after : Input) → HasNoText r (given (Some text) faults) after → ¬ Rose faults after.faults → length text ≤ most_input → refusal_status r ≡ NoMemory
+no_text_given r text faults after (inl long) quiet within = absurd (omega (arith, long.1, within))
+no_text_given r text faults after (inr (inl fault)) quiet within = absurd (quiet fault.1)
+no_text_given r text faults after (inr (inr memory)) quiet within = ap refusal_status memory
 
-init_done : (values : Bool) (left : Option (List ℕ)) (faults : ℕ) (after : Input) (files files_after : Files) (reply : Reply) (status : Status) → IsInitDue values (given left faults) after files files_after reply → status ≡ status_of reply
-    → ¬ Rose faults after.faults → ¬ Rose files.faults files_after.faults → IsInitComplete values (given left faults) files.disk status
-init_done values None faults after files files_after reply status due is quiet quiet_files = tt
-init_done values (Some text) faults after files files_after reply status due is quiet quiet_files = init_ends values text faults after files files_after reply status due is quiet quiet_files
+no_plain_quietly : (text : List ℕ) (e : TextError) → IsNoPlain text e → fault_of text ≡ None → ¬ IsTooLong (tokens_of (words_of text)) → text_error (expansion text) ≡ None → refusal_status (text_refusal e) ≡ NoMemory
+no_plain_quietly text e (inl memory) good few plain = ap (λ (x : TextError). refusal_status (text_refusal x)) memory
+no_plain_quietly text e (inr (inl fault)) good few plain = let wrong : None ≡ Some e = sym good ∙ fault in absurd cc
+no_plain_quietly text e (inr (inr (none, inl long))) good few plain = absurd (few long.1)
+no_plain_quietly text e (inr (inr (none, inr fault))) good few plain = let wrong : None ≡ Some e = sym plain ∙ fault in absurd cc
+
+expand_refused : (text : List ℕ) (faults : ℕ) (after : Input) (r : Refusal) → IsNotExpanded (given (Some text) faults) after r → ¬ Rose faults after.faults → length text ≤ most_input → fault_of text ≡ None
+    → ¬ IsTooLong (tokens_of (words_of text)) → text_error (expansion text) ≡ None → refusal_status r ≡ NoMemory
+expand_refused text faults after r (inl none) quiet within good few plain = no_text_given r text faults after none quiet within
+expand_refused text faults after r (inr (own, whole, (e, same, why))) quiet within good few plain =
+    ap refusal_status same ∙ no_plain_quietly text e (subst (λ (t : List ℕ). IsNoPlain t e) whole.2 why) good few plain
+
+expand_ends : (text : List ℕ) (faults : ℕ) (after : Input) (reply : Reply) (status : Status) → IsExpandDue (given (Some text) faults) after reply → status ≡ status_of reply → ¬ Rose faults after.faults
+    → IsExpandComplete (given (Some text) faults) status
+expand_ends text faults after (printed said) status due is quiet within good few plain = inl is
+expand_ends text faults after (refused r) status due is quiet within good few plain = inr (inl (is ∙ expand_refused text faults after r due quiet within good few plain))
+expand_ends text faults after created status due is quiet within good few plain = absurd due
+expand_ends text faults after (checked ps vs) status due is quiet within good few plain = absurd due
+expand_ends text faults after (ended said) status due is quiet within good few plain = absurd due
+expand_ends text faults after (served said at) status due is quiet within good few plain = absurd due
+expand_ends text faults after (shown d h) status due is quiet within good few plain = absurd due
+expand_ends text faults after accepted status due is quiet within good few plain = absurd due
+
+expand_done : (left : Option (List ℕ)) (faults : ℕ) (after : Input) (reply : Reply) (status : Status) → IsExpandDue (given left faults) after reply → status ≡ status_of reply → ¬ Rose faults after.faults
+    → IsExpandComplete (given left faults) status
+expand_done None faults after reply status due is quiet = tt
+expand_done (Some text) faults after reply status due is quiet = expand_ends text faults after reply status due is quiet
+
+-- an init
+init_ends : (values strict : Bool) (text : List ℕ) (faults : ℕ) (after : Input) (files files_after : Files) (reply : Reply) (status : Status) → IsInitDue values strict (given (Some text) faults) after files files_after reply
+    → status ≡ status_of reply → ¬ Rose faults after.faults → ¬ Rose files.faults files_after.faults → IsInitComplete values strict (given (Some text) faults) files.disk status
+init_ends values strict text faults after files files_after created status due is quiet quiet_files s within has sound free told empty = inl is
+init_ends values strict text faults after files files_after (refused r) status due is quiet quiet_files s within has sound free told empty =
+    inr (inl (is ∙ not_created_quietly values strict r text faults after files files_after s due quiet quiet_files within has sound free told empty))
+init_ends values strict text faults after files files_after (ended said) status due is quiet quiet_files s within has sound free told empty =
+    absurd (not_held_quietly values strict said text faults after s due.0 has free)
+init_ends values strict text faults after files files_after (checked ps vs) status due is quiet quiet_files s within has sound free told empty = absurd due
+init_ends values strict text faults after files files_after (served said at) status due is quiet quiet_files s within has sound free told empty = absurd due
+init_ends values strict text faults after files files_after (shown d h) status due is quiet quiet_files s within has sound free told empty = absurd due
+init_ends values strict text faults after files files_after accepted status due is quiet quiet_files s within has sound free told empty = absurd due
+init_ends values strict text faults after files files_after (printed said) status due is quiet quiet_files s within has sound free told empty = absurd due
+
+init_done : (values strict : Bool) (left : Option (List ℕ)) (faults : ℕ) (after : Input) (files files_after : Files) (reply : Reply) (status : Status) → IsInitDue values strict (given left faults) after files files_after reply
+    → status ≡ status_of reply → ¬ Rose faults after.faults → ¬ Rose files.faults files_after.faults → IsInitComplete values strict (given left faults) files.disk status
+init_done values strict None faults after files files_after reply status due is quiet quiet_files = tt
+init_done values strict (Some text) faults after files files_after reply status due is quiet quiet_files = init_ends values strict text faults after files files_after reply status due is quiet quiet_files
 
 -- a run, or a restart
 told_report : (found : Result Said Refusal) (old new : Output) (status : Status) → IsReportThere found → IsResultTold found old new status → ¬ Rose old.faults new.faults
@@ -138,7 +180,8 @@ pub worked_due : {S K R : Type 0} (o : Option Command) (before after : World S K
     → before.output.faults ≤ after.output.faults → Worked o before after status
 worked_due None before after found status has told later = tt
 worked_due (Some Check) before after found status has told later = tt
-worked_due (Some (Init values)) before after found status has told later = tt
+worked_due (Some Expand) before after found status has told later = tt
+worked_due (Some (Init values strict)) before after found status has told later = tt
 worked_due (Some (Run workers)) before after found status has told later = λ quiet bytes c plans h scenario room.
     told_report found before.output after.output status (has bytes c plans h scenario room (record { source = quiet.input refl; rack = quiet.files refl })) told quiet.output
 worked_due (Some Session) before after found status has told later = λ quiet bytes c plans lines h text files.
@@ -171,7 +214,8 @@ pub worked_held : {S K R : Type 0} (o : Option Command) (before after : World S 
     → HasWorked o before.input after.input before.files after.files before.output after.output (endings.Told status) → Worked o before after status
 worked_held None before after d at status due has = tt
 worked_held (Some Check) before after d at status due has = tt
-worked_held (Some (Init values)) before after d at status due has = tt
+worked_held (Some Expand) before after d at status due has = tt
+worked_held (Some (Init values strict)) before after d at status due has = tt
 worked_held (Some (Run workers)) before after d at status due has = absurd due
 worked_held (Some Session) before after d at status due has = absurd due
 worked_held (Some Serve) before after d at status due has = λ quiet bytes c plans h scene known sound.
@@ -267,8 +311,9 @@ done_by : {S K R : Type 0} (o : Option Command) (gates : AskedGates) (before aft
     → status ≡ status_of reply → Worked o before after status → IsQuiet o before after → DoesItsWork o before.input before.files status
 done_by None gates before after status reply due is worked quiet = tt
 done_by (Some Check) gates before after status reply due is worked quiet = check_done before.input.left before.input.faults after.input reply status due.0 is (quiet.input refl)
-done_by (Some (Init values)) gates before after status reply due is worked quiet =
-    init_done values before.input.left before.input.faults after.input before.files after.files reply status due is (quiet.input refl) (quiet.files refl)
+done_by (Some Expand) gates before after status reply due is worked quiet = expand_done before.input.left before.input.faults after.input reply status due.0 is (quiet.input refl)
+done_by (Some (Init values strict)) gates before after status reply due is worked quiet =
+    init_done values strict before.input.left before.input.faults after.input before.files after.files reply status due is (quiet.input refl) (quiet.files refl)
 done_by (Some (Run workers)) gates before after status reply due is worked quiet = worked quiet
 done_by (Some Session) gates before after status reply due is worked quiet = worked quiet
 done_by (Some Serve) gates before after status reply due is worked quiet = worked quiet
@@ -291,7 +336,8 @@ given_memory (Some text) P all = all text
 wanting : (o : Option Command) (input : Input) (files : Files) (status : Status) → status ≡ NoMemory → DoesItsWork o input files status
 wanting None input files status is = tt
 wanting (Some Check) input files status is = given_memory input.left _ (λ text ps within reading. inr (inr (inl is)))
-wanting (Some (Init values)) input files status is = given_memory input.left _ (λ text c within has sound told empty. inr (inl is))
+wanting (Some Expand) input files status is = given_memory input.left _ (λ text within good few plain. inr (inl is))
+wanting (Some (Init values strict)) input files status is = given_memory input.left _ (λ text s within has sound free told empty. inr (inl is))
 wanting (Some (Run workers)) input files status is = λ bytes c plans h scenario room. inr (inr (inl is))
 wanting (Some Session) input files status is = λ bytes c plans lines h text room. inr (inl is)
 wanting (Some Serve) input files status is = λ bytes c plans h scene told sound. inr (inl is)

@@ -4,7 +4,7 @@ use Rattle.process_journal.specs.declared.errors.JournalError.TheVariants as jou
 use Rattle.history_opening.specs.declared.faults.OpenError.TheVariants as opening
 use Rattle.commute_table.specs.declared.errors.ScenarioError.TheVariants as scenarios
 use Rattle.program_words.specs.declared.reading.Command.{Command}
-use Rattle.program_words.specs.declared.reading.Command.TheVariants.{Check, Init, Run, Session, Serve, Restart, Show, Replay, Verify, Audit, Gen, Bulk, Help, Version}
+use Rattle.program_words.specs.declared.reading.Command.TheVariants.{Check, Expand, Init, Run, Session, Serve, Restart, Show, Replay, Verify, Audit, Gen, Bulk, Help, Version}
 use Rattle.command_refusals.specs.declared.refusal.Refusal.TheVariants.{NoMemory}
 use Rattle.command_input.specs.FilesLeft.{AreUntouched}
 use Rattle.worker_gate.specs.ManyGates.{AskedGates}
@@ -15,7 +15,8 @@ use Rattle.process_top.specs.Commands.{IsDueTo}
 pub no_words_due : (o : Option Command) (gates : AskedGates) (before after : Input) (files files_after : Files) → gates.after ≡ gates.before → AreUntouched files files_after → IsDueTo o gates before after files files_after (refused NoMemory)
 no_words_due None gates before after files files_after unasked untouched = (inr refl, untouched)
 no_words_due (Some Check) gates before after files files_after unasked untouched = (tt, untouched)
-no_words_due (Some (Init values)) gates before after files files_after unasked untouched = inl (inr (inr refl), untouched)
+no_words_due (Some Expand) gates before after files files_after unasked untouched = (inl (inr (inr refl)), untouched)
+no_words_due (Some (Init values strict)) gates before after files files_after unasked untouched = inl (inr (inr refl), untouched)
 no_words_due (Some (Run workers)) gates before after files files_after unasked untouched = inl (inl (inr (inr refl), untouched), ap (take workers) unasked)
 no_words_due (Some Session) gates before after files files_after unasked untouched = inl (inl (inr (inr refl), untouched))
 no_words_due (Some Serve) gates before after files files_after unasked untouched = inl (inl (inr (inr refl), untouched))

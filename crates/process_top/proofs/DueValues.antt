@@ -21,7 +21,7 @@ use Rattle.command_input.specs.declared.said.Said.{Said}
 use Rattle.command_input.specs.FilesLeft.{Files}
 use Rattle.command_input.specs.Inputs.{Input}
 use Rattle.program_words.specs.declared.reading.Command.{Command}
-use Rattle.program_words.specs.declared.reading.Command.TheVariants.{Check, Init, Run, Session, Serve, Restart, Show, Replay, Verify, Audit, Gen, Bulk, Help, Version}
+use Rattle.program_words.specs.declared.reading.Command.TheVariants.{Check, Expand, Init, Run, Session, Serve, Restart, Show, Replay, Verify, Audit, Gen, Bulk, Help, Version}
 use Rattle.scenario_run.specs.Reports.{causes_in, exhausted_line, report_in}
 use Rattle.scenario_run.specs.Run.{SaysRun, IsRunDue as IsRunFound}
 use Rattle.restart_run.specs.Restart.{SaysRestart, IsRestartFound}
@@ -181,7 +181,8 @@ module _ (law : ListsAreOfValues) where
       by (refused r) due = tt
   due_tells None gates before after files files_after reply due = tt
   due_tells (Some Check) gates before after files files_after reply due = tt
-  due_tells (Some (Init values)) gates before after files files_after reply due = tt
+  due_tells (Some Expand) gates before after files files_after reply due = tt
+  due_tells (Some (Init values strict)) gates before after files files_after reply due = tt
   due_tells (Some Replay) gates before after files files_after reply due = tt
   due_tells (Some Verify) gates before after files files_after reply due = tt
   due_tells (Some (Audit history)) gates before after files files_after reply due = tt

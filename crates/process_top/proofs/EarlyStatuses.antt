@@ -5,7 +5,7 @@ use Rattle.std.proofs.Common.{◌≡◌, ◌||◌, ℕ, List, [], ◌∷◌, Boo
 use Rattle.process_journal.specs.declared.errors.JournalError.{JournalError}
 use Rattle.process_journal.specs.declared.errors.JournalError.TheVariants as journal
 use Rattle.program_words.specs.declared.reading.Command.{Command}
-use Rattle.program_words.specs.declared.reading.Command.TheVariants.{Check, Init, Run, Session, Serve, Restart, Show, Replay, Verify, Audit, Gen, Bulk, Help, Version}
+use Rattle.program_words.specs.declared.reading.Command.TheVariants.{Check, Expand, Init, Run, Session, Serve, Restart, Show, Replay, Verify, Audit, Gen, Bulk, Help, Version}
 use Rattle.command_refusals.specs.Statuses.{IsOneOf}
 use Rattle.command_refusals.specs.declared.status.Status.{Status}
 use Rattle.command_refusals.specs.declared.status.Status.TheVariants as statuses
@@ -16,11 +16,14 @@ use Rattle.command_input.specs.Early.{comes_before_files}
 use Rattle.process_top.specs.Worlds.{World, Input, Files, Output}
 use Rattle.commute_table.specs.declared.errors.ScenarioError.{ScenarioError}
 use Rattle.commute_table.specs.declared.errors.ScenarioError.TheVariants as errors
-use Rattle.command_input.specs.Inputs.{HasNoText}
-use Rattle.command_input.specs.Scenarios.{scenario_refusal}
+use Rattle.process_tree.specs.declared.tree.Named.{Named}
+use Rattle.commute_table.specs.declared.op.Op.{Op}
+use Rattle.command_input.specs.Inputs.{text_refusal, HasNoText}
+use Rattle.command_input.specs.Scenarios.{scenario_refusal, AreNoPlans}
+use Rattle.command_input.proofs.ScenarioParts.{plans_refused, IsPlanRefusal}
 use Rattle.history_files.specs.declared.faults.CreateError.{CreateError}
 use Rattle.history_files.specs.declared.faults.CreateError.TheVariants as create
-use Rattle.init_run.specs.Init.{create_refusal, IsCatalogRefused, IsNotCreated}
+use Rattle.init_run.specs.Init.{create_refusal, IsCatalogRefused, IsHeldBack, IsNotCreated}
 use Rattle.init_run.proofs.InitParts.{in_parts, IsRefusedInParts}
 use Rattle.journal_input.specs.Opening.{journal_refusal}
 use Rattle.process_tree.specs.declared.plan.Plan.{Plan}
@@ -91,27 +94,53 @@ early_text r before after (inr (inr memory)) is =
     let wrong : false ≡ true = ap (λ (e : Refusal). is_early_status (refusal_status e)) (sym memory) ∙ is in absurd (cc)
 
 -- that a catalog leaves out a conflict in value
-early_values : (values : Bool) (c : Catalog) (r : Refusal) → IsUnsound c r → is_early_status (refusal_status r) ≡ true → comes_first (Some (Init values)) r ≡ true
-early_values values c r (inl memory) is =
+early_values : (values strict : Bool) (c : Catalog) (r : Refusal) → IsUnsound c r → is_early_status (refusal_status r) ≡ true → comes_first (Some (Init values strict)) r ≡ true
+early_values values strict c r (inl memory) is =
     let wrong : false ≡ true = ap (λ (e : Refusal). is_early_status (refusal_status e)) (sym memory) ∙ is in absurd (cc)
-early_values values c r (inr (a, b, same, least)) is = subst (λ (e : Refusal). comes_first (Some (Init values)) e ≡ true) (sym same) refl
+early_values values strict c r (inr (a, b, same, least)) is = subst (λ (e : Refusal). comes_first (Some (Init values strict)) e ≡ true) (sym same) refl
 
 -- what comes before the files comes first
-first_of : (values : Bool) (r : Refusal) → comes_before_files r ≡ true → comes_first (Some (Init values)) r ≡ true
-first_of values r before = ap (λ b. b || is_commuting r) before
+first_of : (values strict : Bool) (r : Refusal) → comes_before_files r ≡ true → comes_first (Some (Init values strict)) r ≡ true
+first_of values strict r before = ap (λ b. b || is_commuting r) before
 
-early_catalog : (values : Bool) (r : Refusal) (before after : Input) → IsCatalogRefused values r before after → is_early_status (refusal_status r) ≡ true → comes_first (Some (Init values)) r ≡ true
-early_catalog values r before after (inl none) is = first_of values r (early_text r before after none is)
-early_catalog values r before after (inr (bytes, whole, inl why)) is =
+-- that the text of its processes gives no plans
+early_of_text : (e : TextError) → is_early_status (refusal_status (text_refusal e)) ≡ true → comes_before_files (text_refusal e) ≡ true
+early_of_text (texts.BadText line column expected) is = refl
+early_of_text (texts.Limit what n) is = refl
+early_of_text (texts.SameName line name) is = refl
+early_of_text texts.NoMemory is = absurd (cc)
+
+early_no_plans : (ops : List Op) (ps : List Named) (r : Refusal) → AreNoPlans ops ps r → is_early_status (refusal_status r) ≡ true → comes_before_files r ≡ true
+early_no_plans ops [] r none is = absurd none
+early_no_plans ops (p ∷ ps) r (inl (inl memory)) is =
+    let wrong : false ≡ true = ap (λ (e : Refusal). is_early_status (refusal_status e)) (sym memory) ∙ is in absurd (cc)
+early_no_plans ops (p ∷ ps) r (inl (inr (name, same, unknown))) is = subst (λ (e : Refusal). comes_before_files e ≡ true) (sym same) refl
+early_no_plans ops (p ∷ ps) r (inr (some, later)) is = early_no_plans ops ps r later is
+
+early_plans : (ops : List Op) (text : List ℕ) (r : Refusal) → IsPlanRefusal ops text r → is_early_status (refusal_status r) ≡ true → comes_before_files r ≡ true
+early_plans ops text r (inl (e, same, fault)) is =
+    subst (λ (x : Refusal). comes_before_files x ≡ true) (sym same) (early_of_text e (ap (λ (x : Refusal). is_early_status (refusal_status x)) (sym same) ∙ is))
+early_plans ops text r (inr (ps, reading, none)) is = early_no_plans ops ps r none is
+
+-- what is held against a scenario is said at the status of verdicts
+held_verdict : (values strict : Bool) (before after : Input) (said : Said) → IsHeldBack values strict before after said → is_verdict said.status ≡ true
+held_verdict values strict before after said (bytes, whole, (s, says, sound, (is, inl (plans, good, some, line)))) = subst (λ (x : Status). is_verdict x ≡ true) (sym line.status) refl
+held_verdict values strict before after said (bytes, whole, (s, says, sound, (is, inr (line, none, same, status)))) = subst (λ (x : Status). is_verdict x ≡ true) (sym status) refl
+
+early_catalog : (values strict : Bool) (r : Refusal) (before after : Input) → IsCatalogRefused values strict r before after → is_early_status (refusal_status r) ≡ true → comes_first (Some (Init values strict)) r ≡ true
+early_catalog values strict r before after (inl none) is = first_of values strict r (early_text r before after none is)
+early_catalog values strict r before after (inr (bytes, whole, inl why)) is =
     let same = why.1 in
-    first_of values r (subst (λ (e : Refusal). comes_before_files e ≡ true) (sym same) (early_scenario why.0 (ap (λ (e : Refusal). is_early_status (refusal_status e)) (sym same) ∙ is)))
-early_catalog values r before after (inr (bytes, whole, inr (s, says, refused'))) is = early_values values s.catalog r refused'.1 is
+    first_of values strict r (subst (λ (e : Refusal). comes_before_files e ≡ true) (sym same) (early_scenario why.0 (ap (λ (e : Refusal). is_early_status (refusal_status e)) (sym same) ∙ is)))
+early_catalog values strict r before after (inr (bytes, whole, inr (s, says, inl refused'))) is = early_values values strict s.catalog r refused'.1 is
+early_catalog values strict r before after (inr (bytes, whole, inr (s, says, inr (done, sound, refused')))) is =
+    first_of values strict r (early_plans s.catalog.ops s.processes r (plans_refused s.catalog.ops s.processes r refused'.1) is)
 
-early_init : (values : Bool) (r : Refusal) (before after : Input) (files files_after : Files) → IsNotCreated values r before after files files_after → is_early_status (refusal_status r) ≡ true → comes_first (Some (Init values)) r ≡ true
-early_init values r before after files files_after not_created is = by_part (in_parts values r before after files files_after not_created)
+early_init : (values strict : Bool) (r : Refusal) (before after : Input) (files files_after : Files) → IsNotCreated values strict r before after files files_after → is_early_status (refusal_status r) ≡ true → comes_first (Some (Init values strict)) r ≡ true
+early_init values strict r before after files files_after not_created is = by_part (in_parts values strict r before after files files_after not_created)
   where
-    by_part : IsRefusedInParts values r before after files files_after → comes_first (Some (Init values)) r ≡ true
-    by_part (inl why) = early_catalog values r before after why.0 is
+    by_part : IsRefusedInParts values strict r before after files files_after → comes_first (Some (Init values strict)) r ≡ true
+    by_part (inl why) = early_catalog values strict r before after why.0 is
     by_part (inr why) =
         let wrong : false ≡ true = sym (late_create why.1.0) ∙ ap (λ (e : Refusal). is_early_status (refusal_status e)) (sym why.1.1) ∙ is in absurd (cc)
 
@@ -283,19 +312,20 @@ module _ {S K R : Type 0} (before after : World S K R) where
       → (is_early o reply ≡ true → after.rack ≡ before.rack) → is_early_for o (status_of reply) ≡ true → after.rack ≡ before.rack
   by_command None gates reply due untouched early is = untouched refl
   by_command (Some Check) gates reply due untouched early is = untouched refl
+  by_command (Some Expand) gates reply due untouched early is = untouched refl
   by_command (Some Verify) gates reply due untouched early is = untouched refl
   by_command (Some (Audit false)) gates reply due untouched early is = untouched refl
   by_command (Some (Gen number count)) gates reply due untouched early is = untouched refl
   by_command (Some (Help about)) gates reply due untouched early is = untouched refl
   by_command (Some Version) gates reply due untouched early is = untouched refl
-  by_command (Some (Init values)) gates created due untouched early is = absurd (cc)
-  by_command (Some (Init values)) gates (refused r) due untouched early is = early (early_init values r before.input after.input before.files after.files due is)
-  by_command (Some (Init values)) gates (checked ps vs) due untouched early is = absurd due
-  by_command (Some (Init values)) gates (ended said) due untouched early is = absurd due
-  by_command (Some (Init values)) gates (served d at) due untouched early is = absurd due
-  by_command (Some (Init values)) gates (shown c h) due untouched early is = absurd due
-  by_command (Some (Init values)) gates accepted due untouched early is = absurd due
-  by_command (Some (Init values)) gates (printed text) due untouched early is = absurd due
+  by_command (Some (Init values strict)) gates created due untouched early is = absurd (cc)
+  by_command (Some (Init values strict)) gates (refused r) due untouched early is = early (early_init values strict r before.input after.input before.files after.files due is)
+  by_command (Some (Init values strict)) gates (checked ps vs) due untouched early is = absurd due
+  by_command (Some (Init values strict)) gates (ended said) due untouched early is = early (held_verdict values strict before.input after.input said due.0)
+  by_command (Some (Init values strict)) gates (served d at) due untouched early is = absurd due
+  by_command (Some (Init values strict)) gates (shown c h) due untouched early is = absurd due
+  by_command (Some (Init values strict)) gates accepted due untouched early is = absurd due
+  by_command (Some (Init values strict)) gates (printed text) due untouched early is = absurd due
   by_command (Some (Run workers)) gates (ended said) due untouched early is = early (always_said (first_gates workers gates) before.input after.input before.files after.files said due is)
   by_command (Some (Run workers)) gates (refused r) due untouched early is = early (always_refusal r is)
   by_command (Some (Run workers)) gates (checked ps vs) due untouched early is = absurd due
@@ -366,7 +396,8 @@ module _ {S K R : Type 0} (before after : World S K R) where
   late_for : (o : Option Command) → (is_early_for o statuses.WriteFault ≡ false) × (is_early_for o statuses.NoMemory ≡ false)
   late_for None = (refl, refl)
   late_for (Some Check) = (refl, refl)
-  late_for (Some (Init values)) = (refl, refl)
+  late_for (Some Expand) = (refl, refl)
+  late_for (Some (Init values strict)) = (refl, refl)
   late_for (Some (Run workers)) = (refl, refl)
   late_for (Some Session) = (refl, refl)
   late_for (Some Serve) = (refl, refl)

@@ -1,5 +1,5 @@
 -- What the commands say is due.
-use Rattle.std.proofs.Common.{◌≡◌, ℕ, List, Bool, true, Result, Ok, Err, refl, ap, subst, ◌∙◌, if◌then◌else◌, length}
+use Rattle.std.proofs.Common.{◌≡◌, ℕ, List, Bool, true, Result, Ok, Err, refl, ap, subst, ◌∙◌, if◌then◌else◌, length, inl, inr}
 use Rattle.process_tree.specs.declared.tree.Named.{Named}
 use Rattle.commute_table.specs.declared.catalog.Catalog.{Catalog}
 use Rattle.schedule_model.specs.declared.history.History.{History}
@@ -92,9 +92,11 @@ bulk_says gate number count files files_after (Ok said) due = (ended said, refl,
 bulk_says gate number count files files_after (Err r) due = due
 
 -- what `init` found is said
-pub init_says : (values : Bool) (before after : Input) (files files_after : Files) (found : Result Said Refusal) → IsInitFound values before after files files_after found → Says (IsInitDue values before after files files_after) found
-init_says values before after files files_after (Ok said) due = (created, refl, due.1, due.0.text, due.0.status)
-init_says values before after files files_after (Err r) due = due
+pub init_says : (values strict : Bool) (before after : Input) (files files_after : Files) (found : Result Said Refusal) → IsInitFound values strict before after files files_after found
+    → Says (IsInitDue values strict before after files files_after) found
+init_says values strict before after files files_after (Ok said) (inl due) = (created, refl, due.1, due.0.text, due.0.status)
+init_says values strict before after files files_after (Ok said) (inr held) = (ended said, refl, held, refl, refl)
+init_says values strict before after files files_after (Err r) due = due
 
 -- what a replay found is said, and the files are as they were
 pub replay_says : (files files_after : Files) (found : Result Said Refusal) → IsReplayFound files files_after found → AreUntouched files files_after

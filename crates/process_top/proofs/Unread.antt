@@ -2,7 +2,7 @@
 use Rattle.std.proofs.Common.{◌≡◌, ◌≤◌, ◌∙◌, ℕ, true, false, Option, Some, None, Err, ap, refl, subst, sym, inl, arith}
 use Rattle.program_words.specs.Asked.{Answers as IsReadAs}
 use Rattle.program_words.specs.declared.reading.Command.{Command}
-use Rattle.program_words.specs.declared.reading.Command.TheVariants.{Check, Init, Run, Session, Serve, Restart, Show, Replay, Verify, Audit, Gen, Bulk, Help, Version}
+use Rattle.program_words.specs.declared.reading.Command.TheVariants.{Check, Expand, Init, Run, Session, Serve, Restart, Show, Replay, Verify, Audit, Gen, Bulk, Help, Version}
 use Rattle.program_words.specs.declared.refusals.WordsError.{WordsError}
 use Rattle.program_words.specs.declared.refusals.WordsError.TheVariants.{BadWords, NoMemory}
 use Rattle.command_refusals.specs.Statuses.{number_of}
@@ -38,7 +38,8 @@ due_of o gates before after files files_after NoMemory bad unasked untouched = n
 wanting_worked : (o : Option Command) (before after : Input) (files files_after : Files) (out out_after : Output) → HasWorked o before after files files_after out out_after (endings.Due (Err refusals.NoMemory))
 wanting_worked None before after files files_after out out_after = tt
 wanting_worked (Some Check) before after files files_after out out_after = tt
-wanting_worked (Some (Init values)) before after files files_after out out_after = tt
+wanting_worked (Some Expand) before after files files_after out out_after = tt
+wanting_worked (Some (Init values strict)) before after files files_after out out_after = tt
 wanting_worked (Some (Run workers)) before after files files_after out out_after = λ bytes c plans h scenario room quiet. refl
 wanting_worked (Some Session) before after files files_after out out_after = λ bytes c plans lines h text rest quiet. refl
 wanting_worked (Some Serve) before after files files_after out out_after = λ bytes c plans h scene known sound quiet told. refl

@@ -3,7 +3,7 @@ use Rattle.std.specs.Prelude.{◌≡◌, ◌⊎◌, ◌||◌, ℕ, Bool, true, f
 use Rattle.std.specs.Str.{bytes_eq}
 use Rattle.program_words.specs.Commands.{asked}
 use Rattle.program_words.specs.declared.reading.Command.{Command}
-use Rattle.program_words.specs.declared.reading.Command.TheVariants.{Check, Init, Run, Session, Serve, Restart, Show, Replay}
+use Rattle.program_words.specs.declared.reading.Command.TheVariants.{Check, Expand, Init, Run, Session, Serve, Restart, Show, Replay}
 use Rattle.program_words.specs.declared.reading.Command.TheVariants.{Verify, Audit, Gen, Bulk, Help, Version}
 use Rattle.program_words.specs.declared.refusals.WordsError.{WordsError}
 use Rattle.program_words.specs.declared.refusals.WordsError.TheVariants as errors
@@ -24,6 +24,7 @@ use Rattle.init_run.specs.Init.{IsInitComplete}
 use Rattle.command_input.specs.FilesLeft.{AreUntouched, AreLeft}
 use Rattle.process_top.specs.Replies.{Reply, ended, refused, refused_of, IsReplyTold}
 use Rattle.process_top.specs.Check.{IsCheckDue, IsCheckComplete}
+use Rattle.process_top.specs.Expand.{IsExpandDue, IsExpandComplete}
 use Rattle.process_top.specs.Init.{IsInitDue}
 use Rattle.process_top.specs.Run.{first_gate, first_gates, gates_asked, IsRunDue, IsRunComplete}
 use Rattle.process_top.specs.Session.{IsSessionDue, IsSessionComplete}
@@ -45,7 +46,9 @@ abbrev pub IsDueTo : Option Command → AskedGates → Input → Input → Files
 IsDueTo None gates before after files files_after reply =
     ((reply ≡ refused BadWords) ⊎ (reply ≡ refused NoMemory)) × AreUntouched files files_after
 IsDueTo (Some Check) gates before after files files_after reply = IsCheckDue before after reply × AreUntouched files files_after
-IsDueTo (Some (Init values)) gates before after files files_after reply = IsInitDue values before after files files_after reply
+IsDueTo (Some Expand) gates before after files files_after reply = IsExpandDue before after reply × AreUntouched files files_after
+IsDueTo (Some (Init values strict)) gates before after files files_after reply =
+    IsInitDue values strict before after files files_after reply
 IsDueTo (Some (Run workers)) gates before after files files_after reply =
     IsRunDue (first_gates workers gates) before after files files_after reply
 IsDueTo (Some Session) gates before after files files_after reply = IsSessionDue before after files files_after reply
@@ -69,7 +72,8 @@ IsDueTo (Some Version) gates before after files files_after reply = IsVersionDue
 abbrev pub DoesItsWork : Option Command → Input → Files → Status → Type 0
 DoesItsWork None input files status = ⊤
 DoesItsWork (Some Check) input files status = IsCheckComplete input status
-DoesItsWork (Some (Init values)) input files status = IsInitComplete values input files.disk status
+DoesItsWork (Some Expand) input files status = IsExpandComplete input status
+DoesItsWork (Some (Init values strict)) input files status = IsInitComplete values strict input files.disk status
 DoesItsWork (Some (Run workers)) input files status = IsRunComplete input files status
 DoesItsWork (Some Session) input files status = IsSessionComplete input files status
 DoesItsWork (Some Serve) input files status = IsServeComplete input files status
@@ -98,7 +102,8 @@ pub record Needs : Type 0 where
 abbrev pub needs : Option Command → Needs
 needs None = record { input = false; files = false; boxes = false; gate = false; gates = 1; workers = None }
 needs (Some Check) = record { input = true; files = false; boxes = false; gate = false; gates = 1; workers = None }
-needs (Some (Init values)) = record { input = true; files = true; boxes = true; gate = false; gates = 1; workers = None }
+needs (Some Expand) = record { input = true; files = false; boxes = false; gate = false; gates = 1; workers = None }
+needs (Some (Init values strict)) = record { input = true; files = true; boxes = true; gate = false; gates = 1; workers = None }
 needs (Some (Run n)) = record { input = true; files = true; boxes = true; gate = true; gates = n; workers = Some n }
 needs (Some Session) = record { input = true; files = true; boxes = true; gate = false; gates = 1; workers = None }
 needs (Some Serve) = record { input = true; files = true; boxes = true; gate = false; gates = 1; workers = None }
@@ -146,7 +151,7 @@ is_commuting r = false
 
 -- a refusal that comes before the command calls the rack: that two operations conflict in value is said of the input by `init`
 abbrev pub comes_first : Option Command → Refusal → Bool
-comes_first (Some (Init values)) r = comes_before_files r || is_commuting r
+comes_first (Some (Init values strict)) r = comes_before_files r || is_commuting r
 comes_first command r = comes_before_files r
 
 -- such a refusal, or the verdict on a process that isn't well-formed

@@ -2,6 +2,7 @@ pub mod Told
 pub mod Worlds
 pub mod Replies
 pub mod Check
+pub mod Expand
 pub mod Init
 pub mod Run
 pub mod Session

@@ -18,6 +18,7 @@ ghost use Rattle.process_top.specs.Commands.{Answers, AnswersAtOnce, AnswersTo, 
 
 use crate::auditing;
 use crate::check::check;
+use crate::expanding::expand;
 use crate::generating::{help, scenario, version};
 use crate::laws::printed_lists_keep_values;
 use crate::running::run_by_first;
@@ -129,7 +130,8 @@ fn done<S: Source, K: Sink, R: Rack + Drop, B: Resource, G: Gate>(
 {
     match command {
         Command::Check => untold(parts, check(alloc, source)),
-        Command::Init { values } => unsaid(init(alloc, source, parts, values)),
+        Command::Expand => untold(parts, expand(alloc, source)),
+        Command::Init { values, strict } => unsaid(init(alloc, source, parts, values, strict)),
         Command::Run { .. } => untold(parts, Err(Refusal::BadWords)),
         Command::Session => unsaid(session(alloc, source, parts)),
         Command::Serve => serve(alloc, source, sink, parts),

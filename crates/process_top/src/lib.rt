@@ -9,6 +9,7 @@
 mod auditing;
 mod check;
 mod door;
+mod expanding;
 mod generating;
 mod laws;
 mod running;

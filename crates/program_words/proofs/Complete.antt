@@ -20,7 +20,7 @@ use Rattle.program_words.specs.declared.refusals.WordsError.{WordsError}
 use Rattle.program_words.specs.declared.refusals.WordsError.TheVariants.{BadWords, NoMemory}
 use Rattle.program_words.proofs.Taken.{taken_by}
 use Rattle.program_words.proofs.Numerals.{IsPlainNumber, decimal_is, signed_accepted, unsigned_accepted}
-use Rattle.program_words.proofs.Passes.{history_given, history_left_out, values_given, values_left_out, nothing_passes, no_workers_pass, numbers_count, numbers_number, numbers_pass, one_worker, workers_number, workers_pass}
+use Rattle.program_words.proofs.Passes.{history_given, history_left_out, options_left_out, strict_given, strict_values_given, values_given, values_strict_given, nothing_passes, no_workers_pass, numbers_count, numbers_number, numbers_pass, one_worker, workers_number, workers_pass}
 
 number_at : (t : Text) (n : ℕ) (o : Option Text) → IsPlainNumber t n → o ≡ Some t
     → option_map_or (λ t. digits_value 10 (without_leading_plus t)) o 0 ≡ n
@@ -81,6 +81,7 @@ plain_written name c = ap (option_map (λ (_ : ⊤). c)) (taken_by (fault_of (pl
 -- the name of a command, as it is written, names it
 names_itself : (n : CommandName) → named (name_text n) ≡ Some n
 names_itself name.Check = refl
+names_itself name.Expand = refl
 names_itself name.Init = refl
 names_itself name.Run = refl
 names_itself name.Session = refl
@@ -95,11 +96,19 @@ names_itself name.Bulk = refl
 names_itself name.Help = refl
 names_itself name.Version = refl
 
+-- an `init` with these options
+abbrev init_of : Option (Bool × Bool) → Option Command
+init_of = option_map (λ (values, strict). command.Init values strict)
+
 -- a command as it is written asks for itself
 pub form_asked : (c : Command) (words : List Text) → IsCommandForm c words → asked words ≡ Some c
 form_asked command.Check words is = ap asked is ∙ plain_written (codes "check") command.Check
-form_asked (command.Init true) words is = ap asked is ∙ ap (option_map (λ (b : Bool). command.Init b)) (values_given (codes "init"))
-form_asked (command.Init false) words is = ap asked is ∙ ap (option_map (λ (b : Bool). command.Init b)) (values_left_out (codes "init"))
+form_asked command.Expand words is = ap asked is ∙ plain_written (codes "expand") command.Expand
+form_asked (command.Init true true) words (inl is) = ap asked is ∙ ap init_of (values_strict_given (codes "init"))
+form_asked (command.Init true true) words (inr is) = ap asked is ∙ ap init_of (strict_values_given (codes "init"))
+form_asked (command.Init true false) words is = ap asked is ∙ ap init_of (values_given (codes "init"))
+form_asked (command.Init false true) words is = ap asked is ∙ ap init_of (strict_given (codes "init"))
+form_asked (command.Init false false) words is = ap asked is ∙ ap init_of (options_left_out (codes "init"))
 form_asked (command.Run workers) words (rest, is, form) =
     ap asked is ∙ ap (option_map (λ (n : ℕ). command.Run n)) (workers_form_asked (codes "run") workers rest form)
 form_asked command.Session words is = ap asked is ∙ plain_written (codes "session") command.Session

@@ -8,23 +8,35 @@ use Rattle.clap.specs.ValueTests.{accepts}
 use Rattle.clap.specs.declared.builder.value_parser.ValueParser.TheVariants as vp
 use Rattle.clap.proofs.OnLiterals.{clap_on_literals}
 use Rattle.program_words.specs.Apps.{numbers_app, plain_app, workers_app}
-use Rattle.program_words.specs.Asked.{flag_asked}
+use Rattle.program_words.specs.Asked.{flag_asked, flags_asked}
 
 pub nothing_passes : (name : Text) → fault_of (plain_app name) [] ≡ []
 unfolding clap_on_literals
 nothing_passes name = refl
 
-pub values_left_out : (name : Text) → flag_asked name (codes "values") [] ≡ Some false
+pub options_left_out : (name : Text) → flags_asked name (codes "values") (codes "strict") [] ≡ Some (false, false)
 unfolding clap_on_literals
-values_left_out name = refl
+options_left_out name = refl
+
+pub values_given : (name : Text) → flags_asked name (codes "values") (codes "strict") (codes "--values" ∷ []) ≡ Some (true, false)
+unfolding clap_on_literals
+values_given name = refl
+
+pub strict_given : (name : Text) → flags_asked name (codes "values") (codes "strict") (codes "--strict" ∷ []) ≡ Some (false, true)
+unfolding clap_on_literals
+strict_given name = refl
+
+pub values_strict_given : (name : Text) → flags_asked name (codes "values") (codes "strict") (codes "--values" ∷ codes "--strict" ∷ []) ≡ Some (true, true)
+unfolding clap_on_literals
+values_strict_given name = refl
+
+pub strict_values_given : (name : Text) → flags_asked name (codes "values") (codes "strict") (codes "--strict" ∷ codes "--values" ∷ []) ≡ Some (true, true)
+unfolding clap_on_literals
+strict_values_given name = refl
 
 pub history_left_out : (name : Text) → flag_asked name (codes "history") [] ≡ Some false
 unfolding clap_on_literals
 history_left_out name = refl
-
-pub values_given : (name : Text) → flag_asked name (codes "values") (codes "--values" ∷ []) ≡ Some true
-unfolding clap_on_literals
-values_given name = refl
 
 pub history_given : (name : Text) → flag_asked name (codes "history") (codes "--history" ∷ []) ≡ Some true
 unfolding clap_on_literals

@@ -21,6 +21,10 @@ flag_rule option = record (new_rule option) { long = Some option; action = Some 
 abbrev pub flag_app : Text → Text → App
 flag_app name option = with_rule (plain_app name) (flag_rule option)
 
+-- a command that takes two options without a value
+abbrev pub flags_app : Text → Text → Text → App
+flags_app name first second = with_rule (with_rule (plain_app name) (flag_rule first)) (flag_rule second)
+
 -- `--workers`, one whole number from 1 to 16, and 1 where it is not given
 abbrev pub workers_rule : Rule
 workers_rule = record (new_rule (codes "workers")) {

@@ -8,7 +8,7 @@ use Rattle.clap.specs.Walk.{Row, Text, first_of, one_of}
 use Rattle.clap.specs.Simple.{App, matches_of}
 use Rattle.clap.specs.Faults.{fault_of}
 use Rattle.clap.specs.Kinds.{Kinds}
-use Rattle.program_words.specs.Apps.{flag_app, numbers_app, workers_app}
+use Rattle.program_words.specs.Apps.{flag_app, flags_app, numbers_app, workers_app}
 use Rattle.program_words.specs.declared.refusals.WordsError.{WordsError}
 use Rattle.program_words.specs.declared.refusals.WordsError.TheVariants.{BadWords, NoMemory}
 
@@ -43,6 +43,13 @@ is_true text = option_map_or (λ t. bytes_eq t (codes "true")) text false
 abbrev pub flag_asked : Text → Text → List Text → Option Bool
 flag_asked name option words =
     taken_as (flag_app name option) words (is_true (first_of option (matches_of (flag_app name option) words)))
+
+-- whether each of two options without a value is given
+abbrev pub flags_asked : Text → Text → Text → List Text → Option (Bool × Bool)
+flags_asked name first second words = taken_as (flags_app name first second) words (
+  is_true (first_of first (matches_of (flags_app name first second) words)),
+  is_true (first_of second (matches_of (flags_app name first second) words)),
+)
 
 -- how many workers
 abbrev pub workers_asked : Text → List Text → Option ℕ

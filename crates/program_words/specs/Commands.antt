@@ -3,7 +3,7 @@ use Rattle.std.specs.Prelude.{◌||◌, List, [], ◌∷◌, Option, Some, None,
 use Rattle.std.specs.Str.{bytes_eq}
 use Rattle.clap.specs.Walk.{Text}
 use Rattle.program_words.specs.Apps.{plain_app}
-use Rattle.program_words.specs.Asked.{flag_asked, nothing_asked, numbers_asked, workers_asked}
+use Rattle.program_words.specs.Asked.{flag_asked, flags_asked, nothing_asked, numbers_asked, workers_asked}
 use Rattle.program_words.specs.Names.{named}
 use Rattle.program_words.specs.declared.names.CommandName.{CommandName}
 use Rattle.program_words.specs.declared.names.CommandName.TheVariants as name
@@ -23,7 +23,9 @@ help_asked (word ∷ other ∷ rest) = None
 -- what the words after a command's name ask for, or nothing where `clap` refuses them
 abbrev pub asked_after : CommandName → List Text → Option Command
 asked_after name.Check rest = plain_asked (codes "check") command.Check rest
-asked_after name.Init rest = option_map (λ values. command.Init values) (flag_asked (codes "init") (codes "values") rest)
+asked_after name.Expand rest = plain_asked (codes "expand") command.Expand rest
+asked_after name.Init rest =
+    option_map (λ (values, strict). command.Init values strict) (flags_asked (codes "init") (codes "values") (codes "strict") rest)
 asked_after name.Run rest = option_map (λ workers. command.Run workers) (workers_asked (codes "run") rest)
 asked_after name.Session rest = plain_asked (codes "session") command.Session rest
 asked_after name.Serve rest = plain_asked (codes "serve") command.Serve rest

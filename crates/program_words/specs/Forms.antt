@@ -25,10 +25,20 @@ abbrev pub IsFlagForm : Text → Text → Bool → List Text → Type 0
 IsFlagForm name option true words = words ≡ name ∷ option ∷ []
 IsFlagForm name option false words = IsNamed name words
 
+-- they are those of `init`, with its options where they are given
+abbrev pub IsInitForm : Bool → Bool → List Text → Type 0
+IsInitForm true true words =
+    (words ≡ codes "init" ∷ codes "--values" ∷ codes "--strict" ∷ [])
+    ⊎ (words ≡ codes "init" ∷ codes "--strict" ∷ codes "--values" ∷ [])
+IsInitForm true false words = words ≡ codes "init" ∷ codes "--values" ∷ []
+IsInitForm false true words = words ≡ codes "init" ∷ codes "--strict" ∷ []
+IsInitForm false false words = IsNamed (codes "init") words
+
 -- the words are a command as it is written
 abbrev pub IsCommandForm : Command → List Text → Type 0
 IsCommandForm command.Check words = IsNamed (codes "check") words
-IsCommandForm (command.Init values) words = IsFlagForm (codes "init") (codes "--values") values words
+IsCommandForm command.Expand words = IsNamed (codes "expand") words
+IsCommandForm (command.Init values strict) words = IsInitForm values strict words
 IsCommandForm (command.Run workers) words = (rest : List Text) × (words ≡ codes "run" ∷ rest) × IsWorkersForm workers rest
 IsCommandForm command.Session words = IsNamed (codes "session") words
 IsCommandForm command.Serve words = IsNamed (codes "serve") words

@@ -8,6 +8,7 @@ use Rattle.program_words.specs.declared.names.CommandName.TheVariants as name
 -- the command that a word names
 abbrev pub named : Text → Option CommandName
 named word = if bytes_eq word (codes "check") then Some name.Check
+    else (if bytes_eq word (codes "expand") then Some name.Expand
     else (if bytes_eq word (codes "init") then Some name.Init
     else (if bytes_eq word (codes "run") then Some name.Run
     else (if bytes_eq word (codes "session") then Some name.Session
@@ -21,11 +22,12 @@ named word = if bytes_eq word (codes "check") then Some name.Check
     else (if bytes_eq word (codes "bulk") then Some name.Bulk
     else (if bytes_eq word (codes "help") then Some name.Help
     else (if bytes_eq word (codes "version") then Some name.Version
-    else None)))))))))))))
+    else None))))))))))))))
 
 -- the name of a command, as it is written
 abbrev pub name_text : CommandName → Text
 name_text name.Check = codes "check"
+name_text name.Expand = codes "expand"
 name_text name.Init = codes "init"
 name_text name.Run = codes "run"
 name_text name.Session = codes "session"

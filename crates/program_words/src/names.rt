@@ -6,6 +6,7 @@ ghost use Rattle.program_words.specs.Names.{named};
 #[derive(Clone, Copy, Debug, PartialEq, Eq, Drop)]
 pub enum CommandName {
     Check,
+    Expand,
     Init,
     Run,
     Session,
@@ -27,6 +28,7 @@ pub(crate) fn name_of(word: &str) -> Option<CommandName>
 {
     match word {
         "check" => Some(CommandName::Check),
+        "expand" => Some(CommandName::Expand),
         "init" => Some(CommandName::Init),
         "run" => Some(CommandName::Run),
         "session" => Some(CommandName::Session),

@@ -5,7 +5,7 @@ ghost use Rattle.program_words.specs.Commands.{asked, asked_after};
 ghost use Rattle.program_words.specs.Forms.{IsCommandForm, IsInRange};
 
 use crate::arguments::read_no_argument;
-use crate::flags::read_flag;
+use crate::flags::{read_flag, read_two_flags};
 use crate::help::{read_help, read_option};
 use crate::names::{CommandName, name_of};
 use crate::numbers::read_number_and_count;
@@ -17,8 +17,10 @@ use std::alloc::Global;
 #[derive(Clone, Copy, Debug, PartialEq, Eq, Drop)]
 pub enum Command {
     Check,
-    /// With `values`, only under a catalog whose conflicts name each two operations of which the order can matter to the books.
-    Init { values: bool },
+    Expand,
+    /// With `values`, only under a catalog whose conflicts name each two operations of which the order can matter to the books. With
+    /// `strict`, only of a scenario in which there is nothing to warn of.
+    Init { values: bool, strict: bool },
     Run { workers: u32 },
     Session,
     Serve,
@@ -63,9 +65,13 @@ fn read_after(alloc: Global, name: CommandName, rest: &[String]) -> Result<Comma
             read_no_argument(alloc, "check", rest)?;
             Ok(Command::Check)
         }
+        CommandName::Expand => {
+            read_no_argument(alloc, "expand", rest)?;
+            Ok(Command::Expand)
+        }
         CommandName::Init => {
-            let values = read_flag(alloc, "init", "values", rest)?;
-            Ok(Command::Init { values })
+            let (values, strict) = read_two_flags(alloc, "init", "values", "strict", rest)?;
+            Ok(Command::Init { values, strict })
         }
         CommandName::Run => {
             let workers = read_workers(alloc, "run", rest)?;

@@ -19,7 +19,7 @@ use Rattle.command_refusals.specs.declared.refusal.Refusal.{Refusal}
 use Rattle.command_refusals.specs.declared.refusal.Refusal.TheVariants as refusal
 use Rattle.refusal_hints.specs.declared.about.About.{About}
 use Rattle.refusal_hints.specs.declared.about.About.TheVariants as abouts
-use Rattle.refusal_hints.specs.declared.remedies.TheConstants.{ILL_FORMED, WRITE_FAULT, BROKEN_OFF, STUCK, NOT_REDUCED, STARVED}
+use Rattle.refusal_hints.specs.declared.remedies.TheConstants.{NOT_A_LOG, TOO_LONG, ILL_FORMED, WRITE_FAULT, BROKEN_OFF, STUCK, NOT_REDUCED, STARVED}
 use Rattle.refusal_hints.specs.declared.remedies.TheConstants.{TRIES, UNDO, REFUSE, UNENDED, UNDONE, UNCHOSEN}
 use Rattle.refusal_hints.specs.declared.remedies.TheConstants.{WORDS, PROCESS, NAME, STEP, OPERATION, KEY, AMOUNT}
 use Rattle.refusal_hints.specs.declared.remedies.TheConstants.{NUMBER, NEXT, CLOSE, OR, SAME_NAME, PROCESSES, STEPS}
@@ -141,13 +141,15 @@ remedy about refusal.NoMemory = MEMORY.now
 
 -- what stands on standard error behind an answer that is no refusal, by the number of its status
 abbrev pub ending_hint : ℕ → List ℕ
-ending_hint number = if nat_eq number 3 then ILL_FORMED.now
+ending_hint number = if nat_eq number 2 then NOT_A_LOG.now
+    else (if nat_eq number 3 then ILL_FORMED.now
+    else (if nat_eq number 4 then TOO_LONG.now
     else (if nat_eq number 9 then WRITE_FAULT.now
     else (if nat_eq number 10 then BROKEN_OFF.now
     else (if nat_eq number 11 then STUCK.now
     else (if nat_eq number 12 then NOT_REDUCED.now
     else (if nat_eq number 13 then STARVED.now
-    else [])))))
+    else [])))))))
 
 -- and where memory was wanting for what there is to say
 abbrev pub starved_hint : List ℕ

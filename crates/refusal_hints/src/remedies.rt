@@ -48,7 +48,7 @@ pub(crate) const UNCHOSEN: &str =
     "no choice is open here, so a step, 'choose' or 'end' may stand; a choice begins with 'choose'";
 
 pub(crate) const CLOSE: &str =
-    "behind 'done' stands the word that closes the block around the choice: 'end', 'or' or 'done'";
+    "behind 'done' stands the word that closes the block around the choice: 'end', 'or' or 'done'; behind a 'then' steps may follow where 'tps expand' reads the text, which writes them out";
 
 pub(crate) const OR: &str = "a choice has at least two alternatives, with 'or' between them";
 
@@ -99,7 +99,7 @@ pub(crate) const COMMUTING: &str =
     "the order of these two can matter to the books, so name them in 'conflicts', also where both are the same operation";
 
 pub(crate) const LINE: &str =
-    "a line is one of: start NAME, admit I, next, finish N done, finish N refused, queue N done, queue N refused, flush, abort I, show, stop";
+    "a line of a session is one of: start NAME, admit I, next, finish N done, finish N refused, queue N done, queue N refused, flush, abort I, show, stop; a line of a log is start NAME, do I.STEP, undo I.STEP or end I, of a process that started, and a step that it has";
 
 pub(crate) const INPUT: &str = "an input has at most 1048576 bytes";
 
@@ -143,12 +143,18 @@ pub(crate) const SERIAL_DIFFERS: &str =
 pub(crate) const READ_FAULT: &str = "standard input could not be read to its end";
 
 pub(crate) const DISK_FAULT: &str =
-    "a call of the system on tps.0 to tps.8 failed, or another program works in this folder; look at the disk and the permissions, and then 'tps restart'";
+    "a call of the system on tps.0 to tps.8 failed; look at the disk and the permissions, and then 'tps restart'";
 
 pub(crate) const EXHAUSTED: &str =
     "the step was refused as often as it may be tried; 'tps restart' gives it its tries anew";
 
 pub(crate) const MEMORY: &str = "memory ran out; call again with more of it free";
+
+const NOT_A_LOG: &str =
+    "hint: the last line names an event that its process may not do there, or an operation that the scenario lacks; look whether the log has all events in their order, or add the operation\n";
+
+const TOO_LONG: &str =
+    "hint: an audit takes at most 128 events, and 256 steps in the processes that started together; audit a part of the log, from a moment at which nobody was active\n";
 
 const ILL_FORMED: &str =
     "hint: refusals can leave this process with no way on, or never lead to this alternative; give it another way on behind its commit points\n";
@@ -156,7 +162,7 @@ const ILL_FORMED: &str =
 const WRITE_FAULT: &str = "hint: standard output could not be written to its end\n";
 
 const BROKEN_OFF: &str =
-    "hint: a call of the system on tps.0 to tps.8 failed, or another program works in this folder; look at the disk and the permissions, and then 'tps restart'\n";
+    "hint: a call of the system on tps.0 to tps.8 failed; look at the disk and the permissions, and then 'tps restart'\n";
 
 const STUCK: &str =
     "hint: the last line names the process that is stuck, and its step, which was refused as often as it may be tried; 'tps restart' gives it its tries anew\n";
@@ -171,7 +177,9 @@ pub fn ending_hint(status: u8) -> &'static str
     ensures { result.now ≡ ending_hint status }
 {
     match status {
+        2 => NOT_A_LOG,
         3 => ILL_FORMED,
+        4 => TOO_LONG,
         9 => WRITE_FAULT,
         10 => BROKEN_OFF,
         11 => STUCK,

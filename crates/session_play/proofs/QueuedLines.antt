@@ -10,7 +10,7 @@ use Rattle.machine_model.specs.declared.replies.Refusal.{Refusal}
 use Rattle.machine_model.specs.Replies.{Handed}
 use Rattle.process_core.specs.Answers.{after_call}
 use Rattle.process_core.specs.Cores.{CoreState, courses_in, moment_of, relation}
-use Rattle.history_files.specs.Effects.{subsystem_of}
+use Rattle.engine_steps.specs.Targets.{targets_of}
 use Rattle.engine_steps.specs.Engines.{EngineState}
 use Rattle.engine_steps.specs.Rooms.{MakesRoomFor}
 use Rattle.process_engine.specs.Finishing.{is_barred}
@@ -56,7 +56,7 @@ module _ {R B : Type 0} (e new : EngineState R B) (group rest : List Handed) (d 
   reply = reply_to_queue e.catalog s d.piece answer
 
   reply_is : reply_to e group d answer ≡ reply
-  reply_is = ap (λ ns. queue_reply (relation e.core) (subsystem_of e.catalog.ops) (courses_in e.core) (moment_of e.core) ns d.piece.number (taken_by answer (is_barred e d.piece))) (numbers_are group)
+  reply_is = ap (λ ns. queue_reply (relation e.core) (targets_of e.catalog.ops) (courses_in e.core) (moment_of e.core) ns d.piece.number (taken_by answer (is_barred e d.piece))) (numbers_are group)
 
   abbrev after : Reply → SessionState
   after r = (queue_with s d.piece r).state

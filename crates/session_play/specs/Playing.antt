@@ -30,7 +30,7 @@ use Rattle.process_core.specs.Moments.{abort_reply_in, finish_reply_in, refusal_
 use Rattle.process_engine.specs.Finishing.{outcome_of}
 use Rattle.process_engine.specs.declared.gates.Answer.{Answer}
 use Rattle.process_engine.specs.declared.gates.Answer.TheVariants as answers
-use Rattle.history_files.specs.Effects.{subsystem_of}
+use Rattle.engine_steps.specs.Targets.{targets_of}
 use Rattle.process_engine.specs.Pieces.{after_effects}
 use Rattle.process_engine.specs.Queueing.{queue_reply_in, taken_by}
 use Rattle.engine_calls.specs.GateAnswers.{is_barred_in}
@@ -193,7 +193,7 @@ queue_with s p reply = record {
 -- the machine's reply to the queueing of a piece whose work came to this
 abbrev pub reply_to_queue : Catalog → SessionState → Piece → Answer → QueueReply
 reply_to_queue c s p answer =
-    queue_reply_in s.core (subsystem_of c.ops) s.group p.number (taken_by answer (is_barred_in c s.core p))
+    queue_reply_in s.core (targets_of c.ops) s.group p.number (taken_by answer (is_barred_in c s.core p))
 
 -- piece n, if it is unfinished, is queued; but an end is not refused
 abbrev pub queue_piece : Catalog → SessionState → ℕ → Outcome → Option Piece → Played

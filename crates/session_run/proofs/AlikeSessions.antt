@@ -29,6 +29,7 @@ use Rattle.process_journal.proofs.PlansAlike.{same_course, same_courses}
 use Rattle.history_files.specs.Effects.{effect_of, effects, effects_from, subsystem_of}
 use Rattle.history_files.specs.Laws.{next_effect}
 use Rattle.history_files.specs.Sound.{is_barred as barred_by, kind_of}
+use Rattle.engine_steps.specs.Targets.{targets_of}
 use Rattle.engine_steps.specs.Engines.{full_history}
 use Rattle.process_engine.specs.Finishing.{outcome_of}
 use Rattle.engine_steps.specs.Pieces.{act_of, bars_act}
@@ -194,8 +195,8 @@ module _ (c : CoreState) (qs : List Plan) (equal : AreEqualInTurn c.plans qs) wh
 
     reply_to_queue_same : (cat : Catalog) (p : Piece) (answer : GateAnswer) → reply_to_queue cat s p answer ≡ reply_to_queue cat t p answer
     reply_to_queue_same cat p answer =
-        ap (λ b. queue_reply (relation c) (subsystem_of cat.ops) (courses_in c) (moment_of c) gs p.number (taken_by answer b)) (barred_same cat p)
-        ∙ ap (λ cs. queue_reply (relation c) (subsystem_of cat.ops) cs (now (relation c) (machine_with c cs)) gs p.number (taken_by answer (is_barred_in cat d p))) pc
+        ap (λ b. queue_reply (relation c) (targets_of cat.ops) (courses_in c) (moment_of c) gs p.number (taken_by answer b)) (barred_same cat p)
+        ∙ ap (λ cs. queue_reply (relation c) (targets_of cat.ops) cs (now (relation c) (machine_with c cs)) gs p.number (taken_by answer (is_barred_in cat d p))) pc
 
     queue_by : (cat : Catalog) (p : Piece) (answer : GateAnswer) (refused : Bool)
         → ComeToSame (if refused then stays s (no_refusal_words p.number) else queue_with s p (reply_to_queue cat s p answer))

@@ -16,7 +16,7 @@ use Rattle.process_core.specs.Answers.{after_call}
 use Rattle.process_core.specs.Cores.{CoreState, IsCore, courses_in, machine_of, moment_of, relation}
 use Rattle.process_core.specs.Handing.{with_all, with_kept}
 use Rattle.process_core.proofs.CoreEffects.{effected_after}
-use Rattle.history_files.specs.Effects.{subsystem_of}
+use Rattle.engine_steps.specs.Targets.{targets_of}
 use Rattle.engine_steps.specs.Engines.{EngineState}
 use Rattle.engine_steps.specs.declared.engines.Phase.{Phase}
 use Rattle.engine_steps.specs.declared.engines.Phase.TheVariants.{Settled, Closed as Shut}
@@ -80,7 +80,7 @@ module _ {R B : Type 0} (disk : R → Disk) (e new : EngineState R B) (group res
   board_at o = record { machine = machine_of e.core; group = numbers; closed = o }
 
   abbrev Turns : Option ℕ → Flush → Board → Type 0
-  Turns o a after = IsTurn (relation e.core) (subsystem_of e.catalog.ops) (board_at o) (flushes (flush_says a)) after
+  Turns o a after = IsTurn (relation e.core) (targets_of e.catalog.ops) (board_at o) (flushes (flush_says a)) after
 
   boards : (c : CoreState) (p : Phase) (gs : List Handed) → new.core ≡ c → new.phase ≡ p → rest ≡ gs → board_of new rest ≡ record { machine = machine_of c; group = numbers_of (pieces_of gs); closed = closed_at p (length c.kept) }
   boards c p gs is phase left =
@@ -100,5 +100,5 @@ module _ {R B : Type 0} (disk : R → Disk) (e new : EngineState R B) (group res
   open_turn (answers.Closed k) f = absurd f.left
 
   -- A flush of a settled engine is a turn of the machine.
-  pub flush_turn : (a : Flush) → Flushes disk e new group rest a → IsTurn (relation e.core) (subsystem_of e.catalog.ops) (board_of e group) (flushes (flush_says a)) (board_of new rest)
+  pub flush_turn : (a : Flush) → Flushes disk e new group rest a → IsTurn (relation e.core) (targets_of e.catalog.ops) (board_of e group) (flushes (flush_says a)) (board_of new rest)
   flush_turn a is = subst (λ o. Turns o a (board_of new rest)) (sym (ap (λ k. closed_at k (length e.core.kept)) settled)) (open_turn a is)

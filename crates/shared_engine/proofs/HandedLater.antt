@@ -7,7 +7,7 @@ use Rattle.machine_model.specs.declared.kept.Kept.{Kept}
 use Rattle.machine_model.specs.declared.kept.Kept.TheVariants.{Start, Hand, Effect, Refuse, Abort, Victim, Restart}
 use Rattle.machine_model.specs.declared.kept.Work.{Work}
 use Rattle.machine_model.specs.Calls.{Call, finish, next}
-use Rattle.machine_model.specs.Groups.{Subsystems}
+use Rattle.machine_model.specs.Groups.{Targets}
 use Rattle.machine_model.specs.Moment.{Piece}
 use Rattle.machine_model.specs.Pieces.{piece_of, refusals, runs}
 use Rattle.machine_model.specs.Replies.{Handed, refuse_by}
@@ -92,9 +92,9 @@ after_all-append p [] fs = refl
 after_all-append p (e ∷ es) fs = after_all-append (after p e) es fs
 
 -- where entries lead is what they make of the beginning
-pub led_to : (subsystems : Subsystems) (p : Progress) (es : List TurnEntry) (x : Progress) → AreTold subsystems p es x → x ≡ after_all p es
-led_to subsystems p [] x are = are
-led_to subsystems p (e ∷ es) x are = led_to subsystems (after p e) es x are.1
+pub led_to : (targets : Targets) (p : Progress) (es : List TurnEntry) (x : Progress) → AreTold targets p es x → x ≡ after_all p es
+led_to targets p [] x are = are
+led_to targets p (e ∷ es) x are = led_to targets (after p e) es x are.1
 
 -- what was kept before a piece stays so, as more is kept behind it
 before_step : (n a i b : ℕ) (w : Work) (ks js : List Kept) (p : Piece) (t : Bool) → (piece_of ks n ≡ Some p → kept_before n (ks ++ js) ≡ kept_before n ks)

@@ -12,7 +12,7 @@ use Rattle.machine_model.specs.declared.kept.Kept.TheVariants.{Refuse}
 use Rattle.machine_model.specs.declared.replies.Refusal.{Refusal}
 use Rattle.machine_model.specs.declared.replies.Refusal.TheVariants as refusal
 use Rattle.machine_model.specs.Calls.{next, next_is, next_kept}
-use Rattle.machine_model.specs.Groups.{refused}
+use Rattle.machine_model.specs.Groups.{Targets, refused}
 use Rattle.machine_model.specs.Moment.{Piece}
 use Rattle.machine_model.specs.Pieces.{runs}
 use Rattle.machine_model.specs.Replies.{Handed, all_victims}
@@ -22,7 +22,7 @@ use Rattle.process_core.specs.Answers.{after_call, answer_in}
 use Rattle.process_core.specs.Cores.{CoreState, IsCore, courses_in, moment_of, relation}
 use Rattle.process_core.specs.Rotation.{next_reply_of}
 use Rattle.process_core.specs.declared.replies.Next.{Next as CoreNext}
-use Rattle.history_files.specs.Effects.{subsystem_of}
+use Rattle.engine_steps.specs.Targets.{targets_of}
 use Rattle.history_files.specs.Standing.{EachFits}
 use Rattle.engine_steps.specs.Engines.{EngineState, with_core}
 use Rattle.engine_steps.specs.Rooms.{MakesRoomFor}
@@ -79,11 +79,11 @@ not_both p shut settled = absurd cc
 
 module _ {R B : Type 0} (racks : Racks R) (box : Resources B) (o : EngineState R B) (x y : SharedEngine R B) (es : List TurnEntry)
     (led : AreOf racks box o es x) where
-  abbrev table : ℕ → ℕ
-  table = subsystem_of o.catalog.ops
+  abbrev table : Targets
+  table = targets_of o.catalog.ops
 
-  same_table : table ≡ subsystem_of x.engine.catalog.ops
-  same_table = ap (λ (c : Catalog). subsystem_of c.ops) (sym (led.goes []).catalog)
+  same_table : table ≡ targets_of x.engine.catalog.ops
+  same_table = ap (λ (c : Catalog). targets_of c.ops) (sym (led.goes []).catalog)
 
   ready_so : IsReady box y.engine → IfClosed y.engine.phase (Rose (racks.faults o.files.rack) (racks.faults y.engine.files.rack))
   ready_so ready = subst (λ p. IfClosed p (Rose (racks.faults o.files.rack) (racks.faults y.engine.files.rack))) (sym ready.settled) tt
@@ -245,10 +245,10 @@ due_at x due = record { engine = x.engine; queued = x.queued; due = due; starved
 module _ {R B : Type 0} (racks : Racks R) (box : Resources B) (o : EngineState R B) (x : SharedEngine R B) (es : List TurnEntry)
     (led : AreOf racks box o es x) where
   -- a call of an engine that stays as it is
-  still_leads : (due : Bool) (e : TurnEntry) → IsTold (subsystem_of o.catalog.ops) (progress x) e → progress (due_at x due) ≡ after (progress x) e → gate_asked x.engine.core e ≡ 0 → IsOfHanded x.engine.core e
+  still_leads : (due : Bool) (e : TurnEntry) → IsTold (targets_of o.catalog.ops) (progress x) e → progress (due_at x due) ≡ after (progress x) e → gate_asked x.engine.core e ≡ 0 → IsOfHanded x.engine.core e
       → AreOf racks box o (es ++ e ∷ []) (due_at x due)
   still_leads due e told is none here = record {
-    told = told-snoc (subsystem_of o.catalog.ops) (opened o) es (progress x) e (progress (due_at x due)) led.told told is;
+    told = told-snoc (targets_of o.catalog.ops) (opened o) es (progress x) e (progress (due_at x due)) led.told told is;
     goes = led.goes;
     called = record { rest = led.called.rest; fits = led.called.fits; queued = led.called.queued };
     fault = led.fault;
@@ -262,17 +262,17 @@ module _ {R B : Type 0} (racks : Racks R) (box : Resources B) (o : EngineState R
   module _ (shut : x.engine.phase ≡ Closed) (k : ℕ) (is : k ≡ length x.engine.core.kept) where
     -- a request of a closed engine,
     pub closed_leads : AreOf racks box o (es ++ Next (asked.Closed k) ∷ []) x
-    closed_leads = still_leads x.due (Next (asked.Closed k)) (closed_told (subsystem_of o.catalog.ops) x.engine.core (numbers_of (pieces_of x.queued)) x.engine.phase x.due shut k is) (subst now (sym (or-false x.due)) refl) refl tt
+    closed_leads = still_leads x.due (Next (asked.Closed k)) (closed_told (targets_of o.catalog.ops) x.engine.core (numbers_of (pieces_of x.queued)) x.engine.phase x.due shut k is) (subst now (sym (or-false x.due)) refl) refl tt
 
     -- the queueing of a piece at one,
     pub shut_leads : (n : ℕ) (a : Answer) → AreOf racks box o (es ++ Queue n a (put.Closed k) ∷ []) x
     shut_leads n a =
-        still_leads x.due (Queue n a (put.Closed k)) (closed_queue (subsystem_of o.catalog.ops) x.engine.core (numbers_of (pieces_of x.queued)) x.engine.phase x.due shut k is n a) (subst now (sym (or-false x.due)) refl) refl tt
+        still_leads x.due (Queue n a (put.Closed k)) (closed_queue (targets_of o.catalog.ops) x.engine.core (numbers_of (pieces_of x.queued)) x.engine.phase x.due shut k is n a) (subst now (sym (or-false x.due)) refl) refl tt
 
     -- and a flush that was due.
     pub flushed_leads : x.due ≡ true → AreOf racks box o (es ++ Flush (flushed.Closed k) ∷ []) (due_at x false)
     flushed_leads is_due =
-        still_leads false (Flush (flushed.Closed k)) (closed_flush (subsystem_of o.catalog.ops) x.engine.core (numbers_of (pieces_of x.queued)) x.engine.phase x.due shut k is is_due) refl refl tt
+        still_leads false (Flush (flushed.Closed k)) (closed_flush (targets_of o.catalog.ops) x.engine.core (numbers_of (pieces_of x.queued)) x.engine.phase x.due shut k is is_due) refl refl tt
 
 -- A piece that is handed back is the one that was to be queued; where it found the group full its work is done.
 pub hands_back : {R B : Type 0} (e new : EngineState R B) (group rest : List Handed) (d : Handed) (a : Answer) → IsHandedAs e.core d → (q : EngineQueue) → Queues e new group rest d a q → HandsBack d a q

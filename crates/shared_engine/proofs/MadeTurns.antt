@@ -2,7 +2,7 @@
 use Rattle.std.proofs.Common.{◌≡◌, ◌∙◌, ◌+◌, List, [], ◌∷◌, ◌++◌, length, ap, subst, Option as Maybe, Some, None, IfSome}
 use Rattle.process_disk.specs.declared.rack.Rack.{Ghosts as Racks}
 use Rattle.resource_box.specs.declared.resource.Resource.{Ghosts as Resources}
-use Rattle.history_files.specs.Effects.{subsystem_of}
+use Rattle.engine_steps.specs.Targets.{targets_of}
 use Rattle.engine_steps.specs.Engines.{EngineState}
 use Rattle.history_lock.specs.declared.view.View.{View}
 use Rattle.shared_engine.specs.declared.entries.TurnEntry.{TurnEntry}
@@ -24,7 +24,7 @@ module _ {R B : Type 0} (racks : Racks R) (box : Resources B) where
 
   -- its core is what the entries make
   pub core_is : (o : EngineState R B) (x : SharedEngine R B) (es : List TurnEntry) → AreOf racks box o es x → x.engine.core ≡ core_at o es
-  core_is o x es are = ap (λ (p : Progress). p.core) (led_to (subsystem_of o.catalog.ops) (opened o) es (progress x) are.told)
+  core_is o x es are = ap (λ (p : Progress). p.core) (led_to (targets_of o.catalog.ops) (opened o) es (progress x) are.told)
 
 module _ {R B : Type 0} where
   pub added_by : (e : TurnEntry) (v t w : View (SharedEngine R B) TurnEntry) (more : List TurnEntry) → t.opening ≡ v.opening → t.places ≡ v.places → t.share ≡ v.share → t.seen ≡ v.seen ++ more

@@ -1,7 +1,7 @@
 -- A request for any piece is a turn of the machine.
 use Rattle.std.proofs.Common.{◌≡◌, ◌∙◌, ℕ, Bool, true, List, [], ◌∷◌, ◌++◌, length, refl, ap, sym, subst}
 use Rattle.machine_model.specs.Calls.{Reply, next, next_is}
-use Rattle.machine_model.specs.Groups.{Subsystems}
+use Rattle.machine_model.specs.Groups.{Targets}
 use Rattle.machine_model.specs.Replies.{Next as NextReply}
 use Rattle.machine_model.specs.Turns.{nexts, queues, flushes, says, is_closed, after_next as board_after}
 use Rattle.process_core.specs.Answers.{after_call, answer_in}
@@ -41,8 +41,8 @@ core_after c (core.Stuck i) = refl
 abbrev at : CoreState → List ℕ → Phase → Bool → Progress
 at c group p due = record { core = c; group = group; phase = p; due = due }
 
-next_told_open : (subsystems : Subsystems) (c : CoreState) (group : List ℕ) (due : Bool) (r : CoreNext) → next_is (next_reply_of r) ≡ (answer_in c next).reply → IsTold subsystems (at c group Settled due) (Next (said_of r))
-next_told_open subsystems c group due r replied =
+next_told_open : (targets : Targets) (c : CoreState) (group : List ℕ) (due : Bool) (r : CoreNext) → next_is (next_reply_of r) ≡ (answer_in c next).reply → IsTold targets (at c group Settled due) (Next (said_of r))
+next_told_open targets c group due r replied =
     let told = ap (λ x. reply_in x (next_reply_of r)) (sym replied) in
     record {
       turn = nexts (says (next_reply_of r));
@@ -52,19 +52,19 @@ next_told_open subsystems c group due r replied =
     }
 
 -- A request that is answered as the machine answers it is a turn;
-pub next_told : (subsystems : Subsystems) (c : CoreState) (group : List ℕ) (on : Phase) (due : Bool) → on ≡ Settled → (r : CoreNext) → next_is (next_reply_of r) ≡ (answer_in c next).reply
-    → IsTold subsystems (at c group on due) (Next (said_of r))
-next_told subsystems c group on due settled r replied =
-    subst (λ (p : Phase). IsTold subsystems (at c group p due) (Next (said_of r))) (sym settled) (next_told_open subsystems c group due r replied)
+pub next_told : (targets : Targets) (c : CoreState) (group : List ℕ) (on : Phase) (due : Bool) → on ≡ Settled → (r : CoreNext) → next_is (next_reply_of r) ≡ (answer_in c next).reply
+    → IsTold targets (at c group on due) (Next (said_of r))
+next_told targets c group on due settled r replied =
+    subst (λ (p : Phase). IsTold targets (at c group p due) (Next (said_of r))) (sym settled) (next_told_open targets c group due r replied)
 
-module _ (subsystems : Subsystems) (c : CoreState) (group : List ℕ) (on : Phase) (due : Bool) (shut : on ≡ Closed) (k : ℕ) (is : k ≡ length c.kept) where
-  closed_by : (e : ℕ → TurnEntry) → IsTold subsystems (at c group Closed due) (e (length c.kept)) → IsTold subsystems (at c group on due) (e k)
+module _ (targets : Targets) (c : CoreState) (group : List ℕ) (on : Phase) (due : Bool) (shut : on ≡ Closed) (k : ℕ) (is : k ≡ length c.kept) where
+  closed_by : (e : ℕ → TurnEntry) → IsTold targets (at c group Closed due) (e (length c.kept)) → IsTold targets (at c group on due) (e k)
   closed_by e told =
-      subst (λ (p : Phase). IsTold subsystems (at c group p due) (e k)) (sym shut)
-      (subst (λ (n : ℕ). IsTold subsystems (at c group Closed due) (e n)) (sym is) told)
+      subst (λ (p : Phase). IsTold targets (at c group p due) (e k)) (sym shut)
+      (subst (λ (n : ℕ). IsTold targets (at c group Closed due) (e n)) (sym is) told)
 
   -- and so is one that a closed engine answers,
-  pub closed_told : IsTold subsystems (at c group on due) (Next (asked.Closed k))
+  pub closed_told : IsTold targets (at c group on due) (Next (asked.Closed k))
   closed_told = closed_by (λ n. Next (asked.Closed n)) (record {
     turn = nexts (is_closed (length c.kept));
     entry = (asked.Closed (length c.kept), refl, refl);
@@ -73,7 +73,7 @@ module _ (subsystems : Subsystems) (c : CoreState) (group : List ℕ) (on : Phas
   })
 
   -- or the queueing of a piece,
-  pub closed_queue : (n : ℕ) (a : Answer) → IsTold subsystems (at c group on due) (Queue n a (put.Closed k))
+  pub closed_queue : (n : ℕ) (a : Answer) → IsTold targets (at c group on due) (Queue n a (put.Closed k))
   closed_queue n a = closed_by (λ m. Queue n a (put.Closed m)) (record {
     turn = queues n (outcome_as a) (is_closed (length c.kept));
     entry = (a, put.Closed (length c.kept), refl, refl, refl);
@@ -82,7 +82,7 @@ module _ (subsystems : Subsystems) (c : CoreState) (group : List ℕ) (on : Phas
   })
 
   -- or a flush that is due.
-  pub closed_flush : due ≡ true → IsTold subsystems (at c group on due) (Flush (flushed.Closed k))
+  pub closed_flush : due ≡ true → IsTold targets (at c group on due) (Flush (flushed.Closed k))
   closed_flush is_due = closed_by (λ m. Flush (flushed.Closed m)) (record {
     turn = flushes (is_closed (length c.kept));
     entry = (flushed.Closed (length c.kept), refl, refl);
@@ -91,7 +91,7 @@ module _ (subsystems : Subsystems) (c : CoreState) (group : List ℕ) (on : Phas
   })
 
 -- one entry more
-pub told-snoc : (subsystems : Subsystems) (p : Progress) (es : List TurnEntry) (x : Progress) (e : TurnEntry) (y : Progress) → AreTold subsystems p es x → IsTold subsystems x e → y ≡ after x e
-    → AreTold subsystems p (es ++ e ∷ []) y
-told-snoc subsystems p [] x e y are told is = subst (λ (q : Progress). IsTold subsystems q e × (y ≡ after q e)) are (told, is)
-told-snoc subsystems p (f ∷ fs) x e y are told is = (are.0, told-snoc subsystems (after p f) fs x e y are.1 told is)
+pub told-snoc : (targets : Targets) (p : Progress) (es : List TurnEntry) (x : Progress) (e : TurnEntry) (y : Progress) → AreTold targets p es x → IsTold targets x e → y ≡ after x e
+    → AreTold targets p (es ++ e ∷ []) y
+told-snoc targets p [] x e y are told is = subst (λ (q : Progress). IsTold targets q e × (y ≡ after q e)) are (told, is)
+told-snoc targets p (f ∷ fs) x e y are told is = (are.0, told-snoc targets (after p f) fs x e y are.1 told is)

@@ -26,7 +26,7 @@ use Rattle.machine_model.specs.Turns.{Board, IsStepPiece, IsTurn, MayTake, after
 use Rattle.machine_model.proofs.Snoc.{now-kept}
 use Rattle.process_core.specs.Answers.{after_call}
 use Rattle.process_core.specs.Cores.{CoreState, IsHandedBy, courses_in, machine_of, moment_of, relation}
-use Rattle.history_files.specs.Effects.{subsystem_of}
+use Rattle.engine_steps.specs.Targets.{targets_of}
 use Rattle.engine_steps.specs.Engines.{EngineState, with_core}
 use Rattle.engine_steps.specs.Rooms.{MakesRoomFor}
 use Rattle.engine_steps.specs.declared.engines.Phase.{Phase}
@@ -190,16 +190,16 @@ module _ {R B : Type 0} (e : EngineState R B) (group : List Handed) (d : Handed)
 
   -- the machine's reply is that to this piece
   abbrev reply_here : Reply
-  reply_here = queue_piece (relation e.core) (subsystem_of e.catalog.ops) (courses_in e.core) (moment_of e.core) numbers taken (Some d.piece)
+  reply_here = queue_piece (relation e.core) (targets_of e.catalog.ops) (courses_in e.core) (moment_of e.core) numbers taken (Some d.piece)
 
   reply_is : reply_to e group d answer ≡ reply_here
-  reply_is = ap (queue_piece (relation e.core) (subsystem_of e.catalog.ops) (courses_in e.core) (moment_of e.core) numbers taken) found
+  reply_is = ap (queue_piece (relation e.core) (targets_of e.catalog.ops) (courses_in e.core) (moment_of e.core) numbers taken) found
 
   abbrev refusal_here : Refusal
   refusal_here = refusal_reply (courses_in e.core) (advance (relation e.core) (courses_in e.core) (moment_of e.core) (Refuse n)) d.piece
 
   abbrev full_here : Bool
-  full_here = is_full (subsystem_of e.catalog.ops) (courses_in e.core) (moment_of e.core) numbers d.piece
+  full_here = is_full (targets_of e.catalog.ops) (courses_in e.core) (moment_of e.core) numbers d.piece
 
   -- A piece that is queued was taken as done,
   queued_is_done : reply_to e group d answer ≡ queued → taken ≡ as_done
@@ -239,7 +239,7 @@ module _ {R B : Type 0} (e : EngineState R B) (group : List Handed) (d : Handed)
   board_at o = record { machine = machine_of e.core; group = numbers; closed = o }
 
   abbrev Turns : Option ℕ → Queue → Board → Type 0
-  Turns o q after = IsTurn (relation e.core) (subsystem_of e.catalog.ops) (board_at o) (queues n (outcome_as answer) (queue_says q (reply_to e group d answer))) after
+  Turns o q after = IsTurn (relation e.core) (targets_of e.catalog.ops) (board_at o) (queues n (outcome_as answer) (queue_says q (reply_to e group d answer))) after
 
   module _ (new : EngineState R B) (rest : List Handed) (settled : e.phase ≡ Settled) where
     -- a board of this core and this group that isn't closed
@@ -260,7 +260,7 @@ module _ {R B : Type 0} (e : EngineState R B) (group : List Handed) (d : Handed)
     -- the machine's reply is told
     told : (q : Queue) (r : Reply) → queue_says q (reply_to e group d answer) ≡ says (reply_to e group d answer) → reply_to e group d answer ≡ r → board_of new rest ≡ keeping (queue_kept n r) (numbers ++ queue_adds n r) → Turns None q (board_of new rest)
     told q r said is after =
-        subst (λ s. IsTurn (relation e.core) (subsystem_of e.catalog.ops) (board_at None) (queues n (outcome_as answer) s) (board_of new rest)) (sym said)
+        subst (λ s. IsTurn (relation e.core) (targets_of e.catalog.ops) (board_at None) (queues n (outcome_as answer) s) (board_of new rest)) (sym said)
         ((taken, may, refl), after ∙ ap (λ x. keeping (queue_kept n x) (numbers ++ queue_adds n x)) (sym is))
 
     nothing : (q : Queue) (r : Reply) → queue_says q (reply_to e group d answer) ≡ says (reply_to e group d answer) → reply_to e group d answer ≡ r → queue_kept n r ≡ [] → queue_adds n r ≡ [] → new ≡ e → rest ≡ group
@@ -297,7 +297,7 @@ module _ {R B : Type 0} (e : EngineState R B) (group : List Handed) (d : Handed)
         let done = queued_is_done q.reply in (
           (
             ap outcome_as (queued_answer q.reply),
-            subst (λ t. queue_piece (relation e.core) (subsystem_of e.catalog.ops) (courses_in e.core) (moment_of e.core) numbers t (piece_of (moment_of e.core).kept n) ≡ queued) done q.reply,
+            subst (λ t. queue_piece (relation e.core) (targets_of e.catalog.ops) (courses_in e.core) (moment_of e.core) numbers t (piece_of (moment_of e.core).kept n) ≡ queued) done q.reply,
             subst IsStepPiece (sym handed) q.left.3,
           ),
           boards e.core group q.left.0.core (q.left.0.phase ∙ settled) q.left.1,
@@ -306,5 +306,5 @@ module _ {R B : Type 0} (e : EngineState R B) (group : List Handed) (d : Handed)
 
     -- The queueing of a piece at a settled engine is a turn of the machine.
     pub queue_turn : (q : Queue) → Queues e new group rest d answer q
-        → IsTurn (relation e.core) (subsystem_of e.catalog.ops) (board_of e group) (queues n (outcome_as answer) (queue_says q (reply_to e group d answer))) (board_of new rest)
+        → IsTurn (relation e.core) (targets_of e.catalog.ops) (board_of e group) (queues n (outcome_as answer) (queue_says q (reply_to e group d answer))) (board_of new rest)
     queue_turn q is = subst (λ o. Turns o q (board_of new rest)) (sym (ap (λ k. closed_at k (length e.core.kept)) settled)) (open_turn q is)

@@ -9,7 +9,7 @@ use Rattle.machine_model.specs.Replies.{Handed}
 use Rattle.machine_model.specs.Turns.{IsTurn, queues, flushes}
 use Rattle.process_core.specs.Answers.{after_call}
 use Rattle.process_core.specs.Cores.{CoreState, IsCore, IsHandedBy, moment_of, relation}
-use Rattle.history_files.specs.Effects.{subsystem_of}
+use Rattle.engine_steps.specs.Targets.{targets_of}
 use Rattle.engine_steps.specs.Engines.{EngineState}
 use Rattle.engine_steps.specs.Rooms.{MakesRoomFor}
 use Rattle.engine_steps.specs.declared.engines.Phase.{Phase}
@@ -100,11 +100,11 @@ module _ {R B : Type 0} (disk : R → Disk) (x y : SharedEngine R B) (settled : 
     says_by (queue.Closed k) l = absurd l.reply
 
     -- and is the machine's.
-    pub queue_told : IsTold (subsystem_of x.engine.catalog.ops) (progress x) (Queue d.piece.number a (queue_said q))
+    pub queue_told : IsTold (targets_of x.engine.catalog.ops) (progress x) (Queue d.piece.number a (queue_said q))
     queue_told = record {
       turn = queues n (outcome_as a) (queue_says q reply);
       entry = (a, queue_said q, refl, refl, says_by q queues');
-      is_turn = subst (IsTurn (relation e.core) (subsystem_of e.catalog.ops) (board_of (progress x)) (queues n (outcome_as a) (queue_says q reply))) (ap board_of queue_after)
+      is_turn = subst (IsTurn (relation e.core) (targets_of e.catalog.ops) (board_of (progress x)) (queues n (outcome_as a) (queue_says q reply))) (ap board_of queue_after)
           (queue_turn x.engine x.queued d a handed y.engine y.queued settled q queues');
       due = tt;
     }
@@ -128,11 +128,11 @@ module _ {R B : Type 0} (disk : R → Disk) (x y : SharedEngine R B) (settled : 
     flush_after f l = flushes_after f l
 
     -- and is the machine's.
-    pub flush_told : (f : EngineFlush) → Flushes disk x.engine y.engine x.queued y.queued f → IsTold (subsystem_of x.engine.catalog.ops) (progress x) (Flush (flush_said f))
+    pub flush_told : (f : EngineFlush) → Flushes disk x.engine y.engine x.queued y.queued f → IsTold (targets_of x.engine.catalog.ops) (progress x) (Flush (flush_said f))
     flush_told f l = record {
       turn = flushes (flush_says f);
       entry = (flush_said f, refl, says_flush f l);
-      is_turn = subst (IsTurn (relation e.core) (subsystem_of e.catalog.ops) (board_of (progress x)) (flushes (flush_says f))) (ap board_of (flushes_after f l))
+      is_turn = subst (IsTurn (relation e.core) (targets_of e.catalog.ops) (board_of (progress x)) (flushes (flush_says f))) (ap board_of (flushes_after f l))
           (flush_turn disk x.engine y.engine x.queued y.queued settled core queued' f l);
       due = is_due;
     }

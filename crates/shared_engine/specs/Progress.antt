@@ -2,7 +2,7 @@
 use Rattle.std.specs.Prelude.{◌≡◌, ℕ, Bool, true, false, ◌||◌, not, List, [], ◌∷◌, ◌++◌, filter, length, nat_eq}
 use Rattle.process_tree.specs.declared.play.Outcome.TheVariants as outcome
 use Rattle.machine_model.specs.Calls.{finish, next}
-use Rattle.machine_model.specs.Groups.{Subsystems}
+use Rattle.machine_model.specs.Groups.{Targets}
 use Rattle.machine_model.specs.Pieces.{runs}
 use Rattle.machine_model.specs.Turns.{Board, IsDue, Turn, IsTurn}
 use Rattle.process_core.specs.Answers.{after_call}
@@ -133,13 +133,13 @@ board_of p = record { machine = machine_of p.core; group = p.group; closed = clo
 
 -- The entry is a turn that the machine may make, and leads to what it is after it. Where it is a flush, one is due: since the flush
 -- before it, or since the beginning, a piece found the group full, or a request had to wait while something was queued.
-pub record IsTold (subsystems : Subsystems) (p : Progress) (e : TurnEntry) : Type 0 where
+pub record IsTold (targets : Targets) (p : Progress) (e : TurnEntry) : Type 0 where
   pub turn : Turn
   pub entry : IsEntryOf turn e
-  pub is_turn : IsTurn (relation p.core) subsystems (board_of p) turn (board_of (after p e))
+  pub is_turn : IsTurn (relation p.core) targets (board_of p) turn (board_of (after p e))
   pub due : IsDue p.due turn
 
 -- each of these entries is, one after another, and they lead from the one to the other
-abbrev pub AreTold : Subsystems → Progress → List TurnEntry → Progress → Type 0
-AreTold subsystems p [] last = last ≡ p
-AreTold subsystems p (e ∷ es) last = IsTold subsystems p e × AreTold subsystems (after p e) es last
+abbrev pub AreTold : Targets → Progress → List TurnEntry → Progress → Type 0
+AreTold targets p [] last = last ≡ p
+AreTold targets p (e ∷ es) last = IsTold targets p e × AreTold targets (after p e) es last

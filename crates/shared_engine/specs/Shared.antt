@@ -1,6 +1,6 @@
 -- What an engine that is shared stands for.
 use Rattle.std.specs.Prelude.{⊤, Bool, false, List, []}
-use Rattle.std.proofs.Common.{◌≡◌, arith, refl, subst, sym}
+use Rattle.std.proofs.Common.{◌≡◌, refl, subst, sym}
 use Rattle.process_flow.specs.Causes.{Rose}
 use Rattle.process_disk.specs.declared.rack.Rack.{Ghosts as Racks}
 use Rattle.process_disk.specs.Disk.{Disk, Told}
@@ -8,13 +8,14 @@ use Rattle.process_disk.specs.Images.{EachImage}
 use Rattle.process_tree.specs.Order.{Each}
 use Rattle.resource_box.specs.declared.resource.Resource.{Ghosts as Resources}
 use Rattle.process_core.specs.Cores.{IsCore}
-use Rattle.history_files.specs.Effects.{subsystem_of}
+use Rattle.engine_steps.specs.Targets.{targets_of}
 use Rattle.history_files.specs.Sound.{IsSound}
 use Rattle.history_files.specs.Standing.{EachFits}
 use Rattle.engine_steps.specs.Engines.{EngineState, full_history}
 use Rattle.engine_steps.specs.declared.engines.Phase.{Phase}
 use Rattle.engine_steps.specs.declared.engines.Phase.TheVariants.{Settled, UnderWay, Closed}
 use Rattle.process_engine.specs.Queues.{AreQueued}
+use Rattle.process_engine.proofs.StillQueued.{none_queued as nothing_queued}
 use Rattle.engine_calls.specs.GateAnswers.{IsHandedAs}
 use Rattle.engine_calls.specs.Runs.{GoesOnAlone, IsReady}
 use Rattle.engine_calls.proofs.Goes.{goes_none}
@@ -57,7 +58,7 @@ pub record MayBeCalled {R B : Type 0} (box : Resources B) (x : SharedEngine R B)
 -- of the rack failed; what is queued was handed out; and what was kept is by the answers that the entries tell of.
 pub record AreOf {R B : Type 0} (racks : Racks R) (box : Resources B) (o : EngineState R B)
     (entries : List TurnEntry) (x : SharedEngine R B) : Type 0 where
-  pub told : AreTold (subsystem_of o.catalog.ops) (opened o) entries (progress x)
+  pub told : AreTold (targets_of o.catalog.ops) (opened o) entries (progress x)
   pub goes : GoesOnAlone racks o x.engine
   pub called : MayBeCalled box x
   pub fault : IfClosed x.engine.phase (Rose (racks.faults o.files.rack) (racks.faults x.engine.files.rack))
@@ -92,14 +93,7 @@ opens racks box o is = subst (AreOf racks box o.engine []) (alone racks.disk box
   called = record {
     rest = subst IsAtRest (sym is.ready.settled) tt;
     fits = is.ready.fits;
-    queued = λ settled. record {
-      unfinished = tt;
-      distinct = tt;
-      apart = tt;
-      ends = omega arith;
-      few = omega arith;
-      room = tt;
-    };
+    queued = λ settled. nothing_queued o.engine;
   };
   fault =
       let faults = racks.faults o.engine.files.rack in

@@ -74,7 +74,11 @@ fn committed<H: Abort, R: Rack, B: Resource>(
         panic!(rt; "no memory");
     };
     stores.push_reserved(store);
-    let Ok(()) = prepare_each(&mut stores, rack, &[Effects::new(Some(effect))]) else {
+    let Ok(mut effects) = Effects::new(alloc) else {
+        panic!(rt; "no memory");
+    };
+    effects.push(effect);
+    let Ok(()) = prepare_each(&mut stores, rack, &[effects]) else {
         panic!(rt; "not prepared");
     };
     let Ok(()) = commit_each(&mut stores, rack) else {

@@ -21,7 +21,7 @@ use Rattle.worker_gate.specs.ManyGates.{AreAskedInAll, AreCalls, AskedGates, IsC
 use Rattle.worker_gate.proofs.ManyCalls.{calls_running}
 use Rattle.history_lock.specs.Weights.{total, weigh, weigh_from, AllStand, StandsAt}
 use Rattle.history_lock.proofs.Sums.{weigh-append}
-use Rattle.history_files.specs.Effects.{subsystem_of}
+use Rattle.engine_steps.specs.Targets.{targets_of}
 use Rattle.shared_engine.specs.declared.entries.NextSaid.TheVariants as asked
 use Rattle.shared_engine.specs.declared.entries.FlushSaid.TheVariants as flushed
 use Rattle.shared_engine.specs.declared.entries.QueueSaid.TheVariants as put
@@ -205,7 +205,7 @@ ran_by_history {R = R} {B = B} racks box gates o x one =
     let led = one.led in
     let by = subst (λ (e : EngineState R B). IsByEntries o.catalog o.core e.core one.last.queued one.history) one.engine led.by_entries in
     let calls = entries_calls (opened o) one.history in
-    let core = sym (ap (λ (e : EngineState R B). e.core) one.engine) ∙ ap (λ (p : Progress). p.core) (led_to (subsystem_of o.catalog.ops) (opened o) one.history (progress one.last) led.told) in
+    let core = sym (ap (λ (e : EngineState R B). e.core) one.engine) ∙ ap (λ (p : Progress). p.core) (led_to (targets_of o.catalog.ops) (opened o) one.history (progress one.last) led.told) in
     let all = subst (AreCalls calls.cores o.core) (sym core) calls.calls in
     let refused = one.once (λ n e. gate_refused e) ∙ weighs_total gate_refused 0 one.history in
     let asks = one.once (λ n e. gate_asked c e) ∙ (weighs_total (gate_asked c) 0 one.history ∙ sym by.handed) in

@@ -13,7 +13,7 @@ use Rattle.machine_model.specs.declared.replies.Refusal.{Refusal}
 use Rattle.machine_model.specs.declared.replies.Refusal.TheVariants as refusal
 use Rattle.machine_model.specs.Advance.{advance}
 use Rattle.machine_model.specs.Calls.{next, next_is}
-use Rattle.machine_model.specs.Groups.{Subsystems, Taken, Queue as QueueReply, queued, full, refused, over, dropped, no_piece, no_refusal, is_end_piece, is_full, out_queue, queue_by, queue_piece, queue_reply}
+use Rattle.machine_model.specs.Groups.{Targets, Taken, Queue as QueueReply, queued, full, refused, over, dropped, no_piece, no_refusal, is_end_piece, is_full, out_queue, queue_by, queue_piece, queue_reply}
 use Rattle.machine_model.specs.Moment.{Moment, Piece}
 use Rattle.machine_model.specs.Pieces.{dropped_at, dropped_or_over, piece_of, runs}
 use Rattle.machine_model.specs.Replies.{Next as NextReply, chosen, wait, all_ended, stuck, refusal_reply}
@@ -77,12 +77,12 @@ reports_asked p (wait w) said replied is = subst (Reports p) (sym is.2) tt
 reports_asked p all_ended said replied is = subst (Reports p) (sym is) (sym replied)
 reports_asked p (stuck i) said replied is = subst (Reports p) (sym is) (sym replied)
 
-module _ (subsystems : Subsystems) (c : CoreState) (group : List ℕ) (due : Bool) where
+module _ (targets : Targets) (c : CoreState) (group : List ℕ) (due : Bool) where
   abbrev here : Phase → Progress
   here p = at c group p due
 
   abbrev May : Phase → Turn → Type 0
-  May p t = MaySay (relation c) subsystems (board_of (here p)) t
+  May p t = MaySay (relation c) targets (board_of (here p)) t
 
   reports_said : (p : Phase) (s : Said NextReply) (said : NextSaid) → May p (nexts s) → SaysNext s said → Reports (here p) said
   reports_said Settled (says r) said may is = reports_asked (here Settled) r said may is
@@ -105,7 +105,7 @@ module _ (subsystems : Subsystems) (c : CoreState) (group : List ℕ) (due : Boo
   reports_turn p (flushes s) said is may = absurd (false≢true (sym (ap is_request is.1)))
 
   -- It is so.
-  pub reported : (p : Phase) (said : NextSaid) → IsTold subsystems (here p) (Next said) → Reports (here p) said
+  pub reported : (p : Phase) (said : NextSaid) → IsTold targets (here p) (Next said) → Reports (here p) said
   reported p said told = reports_turn p told.turn said told.entry told.is_turn.0
 
 -- the reply refuses a piece
@@ -145,7 +145,7 @@ put_moves n (dropped k) s is = ap moves is
 put_moves n no_piece s is = absurd is
 put_moves n no_refusal s is = absurd is
 
-module _ (table : ConflictRelation) (subsystems : Subsystems) (courses : List Course) (m : Moment) (idle : m.out ≡ []) where
+module _ (table : ConflictRelation) (targets : Targets) (courses : List Course) (m : Moment) (idle : m.out ≡ []) where
   pub none_runs : (n : ℕ) → runs m n ≡ false
   none_runs n = ap (list_any (λ (p : Piece). eqb p.number n)) idle
 
@@ -155,14 +155,14 @@ module _ (table : ConflictRelation) (subsystems : Subsystems) (courses : List Co
   not_out false false None out is = refl
   not_out false false (Some k) out is = refl
 
-  refuses_none : (group : List ℕ) (taken : Taken) (o : Option Piece) → refuses (queue_piece table subsystems courses m group taken o) ≡ false
+  refuses_none : (group : List ℕ) (taken : Taken) (o : Option Piece) → refuses (queue_piece table targets courses m group taken o) ≡ false
   refuses_none group taken None = refl
   refuses_none group taken (Some p) =
       not_out (is_in p.number group) (runs m p.number) (dropped_at m p.number)
-      (out_queue (is_end_piece p) (is_full subsystems courses m group p) (refusal_reply courses (advance table courses m (Refuse p.number)) p) taken) (none_runs p.number)
+      (out_queue (is_end_piece p) (is_full targets courses m group p) (refusal_reply courses (advance table courses m (Refuse p.number)) p) taken) (none_runs p.number)
 
   -- while no piece is out the queueing of one keeps nothing
-  reply_refuses : (group : List ℕ) (n : ℕ) (taken : Taken) → refuses (queue_reply table subsystems courses m group n taken) ≡ false
+  reply_refuses : (group : List ℕ) (n : ℕ) (taken : Taken) → refuses (queue_reply table targets courses m group n taken) ≡ false
   reply_refuses group n taken = refuses_none group taken (piece_of m.kept n)
 
   some_run : (ns : List ℕ) → filter (runs m) ns ≡ []
@@ -171,15 +171,15 @@ module _ (table : ConflictRelation) (subsystems : Subsystems) (courses : List Co
 
 -- of those queued none runs
 pub none_running : (c : CoreState) → (moment_of c).out ≡ [] → (group : List ℕ) → filter (runs (moment_of c)) group ≡ []
-none_running c idle group = some_run (relation c) (λ n. 0) (courses_in c) (moment_of c) idle group
+none_running c idle group = some_run (relation c) (λ n. record { subsystem = 0; has_bar = false }) (courses_in c) (moment_of c) idle group
 
-module _ (subsystems : Subsystems) (c : CoreState) (group : List ℕ) (due : Bool) (idle : (moment_of c).out ≡ []) where
-  said_moves : (p : Phase) (n : ℕ) (outcome : Outcome) (s : Said QueueReply) (reply : QueueSaid) → May subsystems c group due p (queues n outcome s) → SaysQueue n s reply → moves reply ≡ false
-  said_moves Settled n outcome (says r) reply may is = put_moves n r reply is ∙ (ap refuses may.2 ∙ reply_refuses (relation c) subsystems (courses_in c) (moment_of c) idle group n may.0)
+module _ (targets : Targets) (c : CoreState) (group : List ℕ) (due : Bool) (idle : (moment_of c).out ≡ []) where
+  said_moves : (p : Phase) (n : ℕ) (outcome : Outcome) (s : Said QueueReply) (reply : QueueSaid) → May targets c group due p (queues n outcome s) → SaysQueue n s reply → moves reply ≡ false
+  said_moves Settled n outcome (says r) reply may is = put_moves n r reply is ∙ (ap refuses may.2 ∙ reply_refuses (relation c) targets (courses_in c) (moment_of c) idle group n may.0)
   said_moves Settled n outcome no_memory reply may is = ap moves is
   said_moves Settled n outcome disk_fault reply may is = absurd may
   said_moves Settled n outcome (is_closed k) reply may is = absurd may
-  said_moves UnderWay n outcome (says r) reply may is = put_moves n r reply is ∙ (ap refuses may.2 ∙ reply_refuses (relation c) subsystems (courses_in c) (moment_of c) idle group n may.0)
+  said_moves UnderWay n outcome (says r) reply may is = put_moves n r reply is ∙ (ap refuses may.2 ∙ reply_refuses (relation c) targets (courses_in c) (moment_of c) idle group n may.0)
   said_moves UnderWay n outcome no_memory reply may is = ap moves is
   said_moves UnderWay n outcome disk_fault reply may is = absurd may
   said_moves UnderWay n outcome (is_closed k) reply may is = absurd may
@@ -188,14 +188,14 @@ module _ (subsystems : Subsystems) (c : CoreState) (group : List ℕ) (due : Boo
   said_moves Closed n outcome disk_fault reply may is = absurd cc
   said_moves Closed n outcome (is_closed k) reply may is = ap moves is
 
-  turn_moves : (p : Phase) (t : Turn) (n : ℕ) (a : Answer) (reply : QueueSaid) → IsEntryOf t (Queue n a reply) → May subsystems c group due p t → moves reply ≡ false
+  turn_moves : (p : Phase) (t : Turn) (n : ℕ) (a : Answer) (reply : QueueSaid) → IsEntryOf t (Queue n a reply) → May targets c group due p t → moves reply ≡ false
   turn_moves p (nexts s) n a reply is may = absurd (false≢true (ap is_request is.1))
   turn_moves p (finishes k outcome s) n a reply is may = absurd is
   turn_moves p (queues k outcome s) n a reply is may = ap (λ e. moves (reply_in reply e)) is.2 ∙ said_moves p k outcome s is.1 may is.4
   turn_moves p (flushes s) n a reply is may = absurd (false≢true (sym (ap is_queueing is.1)))
 
   -- nor does it move anything.
-  pub none_moves : (p : Phase) (n : ℕ) (a : Answer) (reply : QueueSaid) → IsTold subsystems (at c group p due) (Queue n a reply) → moves reply ≡ false
+  pub none_moves : (p : Phase) (n : ℕ) (a : Answer) (reply : QueueSaid) → IsTold targets (at c group p due) (Queue n a reply) → moves reply ≡ false
   none_moves p n a reply told = turn_moves p told.turn n a reply told.entry told.is_turn.0
 
 -- The queueing of a piece is answered that the engine is closed only where it is,
@@ -216,7 +216,7 @@ FlushReportsClosed p (flushed.Closed k) = p ≡ Closed
 FlushReportsClosed p (flushed.Flushed n) = ⊤
 FlushReportsClosed p flushed.DiskFault = ⊤
 
-module _ (subsystems : Subsystems) (c : CoreState) (group : List ℕ) (due : Bool) where
+module _ (targets : Targets) (c : CoreState) (group : List ℕ) (due : Bool) where
   refused_open : (p : Phase) (r : Refusal) (s : QueueSaid) → IsRefusedAs r s → ReportsClosed p s
   refused_open p (refusal.Retry k) s is = subst (ReportsClosed p) (sym is) tt
   refused_open p refusal.Alternative s is = subst (ReportsClosed p) (sym is) tt
@@ -232,7 +232,7 @@ module _ (subsystems : Subsystems) (c : CoreState) (group : List ℕ) (due : Boo
   put_open p n no_piece s is = absurd is
   put_open p n no_refusal s is = absurd is
 
-  said_closed : (p : Phase) (n : ℕ) (outcome : Outcome) (s : Said QueueReply) (reply : QueueSaid) → May subsystems c group due p (queues n outcome s) → SaysQueue n s reply → ReportsClosed p reply
+  said_closed : (p : Phase) (n : ℕ) (outcome : Outcome) (s : Said QueueReply) (reply : QueueSaid) → May targets c group due p (queues n outcome s) → SaysQueue n s reply → ReportsClosed p reply
   said_closed p n outcome (says r) reply may is = put_open p n r reply is
   said_closed p n outcome no_memory reply may is = subst (ReportsClosed p) (sym is) tt
   said_closed p n outcome disk_fault reply may is = absurd is
@@ -240,16 +240,16 @@ module _ (subsystems : Subsystems) (c : CoreState) (group : List ℕ) (due : Boo
   said_closed UnderWay n outcome (is_closed k) reply may is = absurd may
   said_closed Closed n outcome (is_closed k) reply may is = subst (ReportsClosed Closed) (sym is) refl
 
-  turn_closed : (p : Phase) (t : Turn) (n : ℕ) (a : Answer) (reply : QueueSaid) → IsEntryOf t (Queue n a reply) → May subsystems c group due p t → ReportsClosed p reply
+  turn_closed : (p : Phase) (t : Turn) (n : ℕ) (a : Answer) (reply : QueueSaid) → IsEntryOf t (Queue n a reply) → May targets c group due p t → ReportsClosed p reply
   turn_closed p (nexts s) n a reply is may = absurd (false≢true (ap is_request is.1))
   turn_closed p (finishes k outcome s) n a reply is may = absurd is
   turn_closed p (queues k outcome s) n a reply is may = subst (ReportsClosed p) (ap (reply_in reply) (sym is.2)) (said_closed p k outcome s is.1 may is.4)
   turn_closed p (flushes s) n a reply is may = absurd (false≢true (sym (ap is_queueing is.1)))
 
-  pub reported_closed : (p : Phase) (n : ℕ) (a : Answer) (k : ℕ) → IsTold subsystems (at c group p due) (Queue n a (put.Closed k)) → p ≡ Closed
+  pub reported_closed : (p : Phase) (n : ℕ) (a : Answer) (k : ℕ) → IsTold targets (at c group p due) (Queue n a (put.Closed k)) → p ≡ Closed
   reported_closed p n a k told = turn_closed p told.turn n a (put.Closed k) told.entry told.is_turn.0
 
-  flush_said_closed : (p : Phase) (s : Said ℕ) (said : FlushSaid) → May subsystems c group due p (flushes s) → SaysFlush s said → FlushReportsClosed p said
+  flush_said_closed : (p : Phase) (s : Said ℕ) (said : FlushSaid) → May targets c group due p (flushes s) → SaysFlush s said → FlushReportsClosed p said
   flush_said_closed p (says n) said may is = subst (FlushReportsClosed p) (sym is) tt
   flush_said_closed p no_memory said may is = absurd is
   flush_said_closed p disk_fault said may is = subst (FlushReportsClosed p) (sym is) tt
@@ -257,11 +257,11 @@ module _ (subsystems : Subsystems) (c : CoreState) (group : List ℕ) (due : Boo
   flush_said_closed UnderWay (is_closed k) said may is = absurd may
   flush_said_closed Closed (is_closed k) said may is = subst (FlushReportsClosed Closed) (sym is) refl
 
-  flush_turn_closed : (p : Phase) (t : Turn) (said : FlushSaid) → IsEntryOf t (Flush said) → May subsystems c group due p t → FlushReportsClosed p said
+  flush_turn_closed : (p : Phase) (t : Turn) (said : FlushSaid) → IsEntryOf t (Flush said) → May targets c group due p t → FlushReportsClosed p said
   flush_turn_closed p (nexts s) said is may = absurd (false≢true (ap is_request is.1))
   flush_turn_closed p (finishes k outcome s) said is may = absurd is
   flush_turn_closed p (queues k outcome s) said is may = absurd (false≢true (ap is_queueing is.2))
   flush_turn_closed p (flushes s) said is may = subst (FlushReportsClosed p) (ap (flush_in said) (sym is.1)) (flush_said_closed p s is.0 may is.2)
 
-  pub flush_closed : (p : Phase) (k : ℕ) → IsTold subsystems (at c group p due) (Flush (flushed.Closed k)) → p ≡ Closed
+  pub flush_closed : (p : Phase) (k : ℕ) → IsTold targets (at c group p due) (Flush (flushed.Closed k)) → p ≡ Closed
   flush_closed p k told = flush_turn_closed p told.turn (flushed.Closed k) told.entry told.is_turn.0

@@ -66,7 +66,10 @@ module _ (R B : RattleType) (g : Racks R.Denot) where
         core_send,
         (
           search (crosses, knot.crosses, sendable) depth 60 fits 20000,
-          (search (files.the_send, r, b, crosses, sendable) depth 60 fits 40000, (search (crosses, sendable) depth 60 fits 20000, tt)),
+          (
+            search (files.the_send, r, b, crosses, sendable) depth 60 fits 40000,
+            (search (crosses, sendable) depth 60 fits 20000, (search (crosses, sendable) depth 60 fits 20000, tt)),
+          ),
         ),
       )))
 

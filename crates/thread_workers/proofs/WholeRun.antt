@@ -7,7 +7,7 @@ use Rattle.process_disk.specs.Images.{EachImage}
 use Rattle.process_tree.specs.Order.{Each}
 use Rattle.resource_box.specs.declared.resource.Resource.{Ghosts as Resources}
 use Rattle.machine_model.specs.Replies.{Handed}
-use Rattle.history_files.specs.Effects.{subsystem_of}
+use Rattle.engine_steps.specs.Targets.{targets_of}
 use Rattle.history_files.specs.Sound.{IsSound}
 use Rattle.engine_steps.specs.Engines.{EngineState, full_history}
 use Rattle.process_core.specs.Cores.{CoreState, IsCore}
@@ -205,7 +205,7 @@ pub outcome_at_end : {R B : Type 0} (racks : Racks R) (box : Resources B) (outco
 outcome_at_end {R} {B} racks box outcome o x first seen places whole known sound stopped =
     let history = seen ++ whole.0 in
     let led = subst (λ (m : Maybe (SharedEngine R B)). IfSome m (λ z. StandsFor racks box z history x)) known whole.1 sound in
-    outcome_is outcome x (stays_over (subsystem_of o.engine.catalog.ops) outcome (opened o.engine) (progress x) history stopped.0.1 (has_entry history places stopped.0 whole.2 stopped.1) stopped.2
+    outcome_is outcome x (stays_over (targets_of o.engine.catalog.ops) outcome (opened o.engine) (progress x) history stopped.0.1 (has_entry history places stopped.0 whole.2 stopped.1) stopped.2
     (running_core o.engine.core sound.core) led.told)
 
 -- The entries that led from the opening engine to the one that comes back.

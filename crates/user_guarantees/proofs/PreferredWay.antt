@@ -1,5 +1,5 @@
 -- A process that nothing kept from it goes its first way: each event of the session keeps it there.
-use Rattle.std.proofs.Common.{◌≡◌, ◌⊎◌, inl, inr, ℕ, Bool, true, false, eqb, ◌&&◌, List, [], ◌∷◌, ◌++◌, filter, map, Some, sym, refl, ap, subst, ◌∙◌, append-nil}
+use Rattle.std.proofs.Common.{◌≡◌, ◌⊎◌, inl, inr, ℕ, Bool, true, false, eqb, ◌&&◌, List, [], ◌∷◌, ◌++◌, length, filter, map, Some, sym, refl, ap, subst, ◌∙◌, append-nil, arith}
 use Rattle.std.specs.Bool.{IsTrue}
 use Rattle.std.specs.List.{list_any, starts_with}
 use Rattle.std.proofs.lemmas.Bool.{and_from, eq-eqb, eqb-true, false≢true, or_left}
@@ -16,16 +16,17 @@ use Rattle.schedule_model.proofs.Members.{Among, among-filter, among-left, filte
 use Rattle.machine_model.specs.declared.kept.Kept.{Kept}
 use Rattle.machine_model.specs.declared.kept.Kept.TheVariants.{Start, Hand, Effect, Refuse, Abort, Victim, Restart}
 use Rattle.machine_model.specs.declared.kept.Work.TheVariants.{Undo}
-use Rattle.machine_model.specs.Moment.{Moment, Piece, has_begun, opening_moment}
+use Rattle.machine_model.specs.Moment.{Moment, Piece, RefusedStep, has_begun, opening_moment}
 use Rattle.machine_model.specs.Pieces.{hands, is_refusal, piece_of, refused_pieces}
 use Rattle.machine_model.specs.Progress.{is_only_try, same_work, step_or_end}
-use Rattle.machine_model.specs.State.{refused_steps}
+use Rattle.machine_model.specs.State.{refused_before, refused_steps}
 use Rattle.machine_model.specs.Advance.{Machine, advance, advance_all, event_of}
 use Rattle.machine_model.specs.Runs.{goes_on_from, history, may_be_kept, now}
 use Rattle.machine_model.specs.Laws.{IsSession}
 use Rattle.machine_model.proofs.Begun.{advance-begun}
 use Rattle.machine_model.proofs.Frames.{piece_of-plain}
 use Rattle.machine_model.proofs.OwnOrder.{InOwnOrder, advance-own_order, out_piece, run-own_order}
+use Rattle.machine_model.proofs.RefusedBefore.{refused-stay}
 use Rattle.machine_model.proofs.RunInduction.{goes_on-keeps}
 use Rattle.machine_model.proofs.Snoc.{added_by_piece, advances, hands-append}
 use Rattle.user_guarantees.specs.FirstWay.{IsOnItsWay, PreferredWay, UndosHaveCauses, has_undo, undoes_next}
@@ -40,13 +41,23 @@ refused_still ks js p is =
     (subst (Among p) (sym (hands-append ks js)) (among-left p (hands ks) (hands js) found.0))
     (list_any-append (is_refusal p.number) ks js ∙ or_left (list_any (is_refusal p.number) ks) (list_any (is_refusal p.number) js) found.1)
 
+no_cons : (x : ℕ) (xs : List ℕ) → x ∷ xs ≡ [] → ⊥
+no_cons x xs e = let l = ap length e in omega arith
+
 -- nothing was refused before where nothing is refused after
 unrefused_before : (table : ConflictRelation) (courses : List Course) (m : Moment) (k : Kept) (i : ℕ) → refused_steps courses (advance table courses m k) i ≡ [] → refused_steps courses m i ≡ []
 unrefused_before table courses m k i none =
-    ap (map (λ (p : Piece). p.step)) (filter-none test (refused_pieces m.kept) (λ p is.
-    none_pass test (refused_pieces (advance table courses m k).kept) (map-none (λ (p : Piece). p.step) (filter test (refused_pieces (advance table courses m k).kept)) none) p
+    let parts = none_of_either (refused_before (advance table courses m k) i) (map (λ (p : Piece). p.step) (filter test (refused_pieces (advance table courses m k).kept))) none in
+    let before : refused_before m i ≡ [] = ap (λ rs. map (λ (r : RefusedStep). r.step) (filter (λ (r : RefusedStep). eqb r.process i) rs)) (sym (refused-stay table courses m k)) ∙ parts.0 in
+    ap (λ bs. bs ++ map (λ (p : Piece). p.step) (filter test (refused_pieces m.kept))) before
+    ∙ ap (map (λ (p : Piece). p.step)) (filter-none test (refused_pieces m.kept) (λ p is.
+    none_pass test (refused_pieces (advance table courses m k).kept) (map-none (λ (p : Piece). p.step) (filter test (refused_pieces (advance table courses m k).kept)) parts.1) p
     (subst (λ ks. Among p (refused_pieces ks)) (sym (advances table courses m k).kept) (refused_still m.kept (k ∷ []) p is))))
   where
+    none_of_either : (bs cs : List ℕ) → bs ++ cs ≡ [] → (bs ≡ []) × (cs ≡ [])
+    none_of_either [] cs is = (refl, is)
+    none_of_either (b ∷ bs) cs is = absurd (no_cons b (bs ++ cs) is)
+
     test : Piece → Bool
     test p = eqb p.process i && is_only_try (shape courses i) p.step p.work
 

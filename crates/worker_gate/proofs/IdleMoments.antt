@@ -94,7 +94,7 @@ pub alone_is_out : (m : Moment) (p : Piece) → m.out ≡ p ∷ [] → state_of 
 alone_is_out m p alone = ap (λ t. if t then Out else dropped_or_over (dropped_at m p.number)) running
   where
     running : runs m p.number ≡ true
-    running = ap (λ ps. runs (record { events = m.events; kept = m.kept; out = ps; lost = m.lost; beginnings = m.beginnings }) p.number) alone ∙ ap (λ t. t || false) (eq-eqb p.number p.number refl)
+    running = ap (λ ps. runs (record { events = m.events; kept = m.kept; out = ps; lost = m.lost; beginnings = m.beginnings; refused = m.refused }) p.number) alone ∙ ap (λ t. t || false) (eq-eqb p.number p.number refl)
 
 -- the moment of a core that has kept more, while no process started
 pub moment_with : (c d : CoreState) (ks : List Kept) → d.conflicts ≡ c.conflicts → d.plans ≡ c.plans → d.opening ≡ c.opening → d.kept ≡ c.kept ++ ks

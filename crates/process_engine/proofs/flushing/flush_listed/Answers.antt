@@ -4,6 +4,7 @@ use Rattle.process_tree.specs.Order.{Each}
 use Rattle.process_core.specs.Cores.{courses_in}
 use Rattle.process_engine.specs.Pieces.{FitsItsBytes}
 use Rattle.process_engine.specs.Queues.{pieces_of, running_of}
+use Rattle.process_engine.proofs.FewQueued.{few_queued}
 use Rattle.process_engine.proofs.GroupKept.{found_some, may_together, some_run}
 use Rattle.process_engine.proofs.flushing.flush_listed.Goals as goal
 
@@ -19,3 +20,6 @@ put_group-requires-clause-group g c =
 
 pub returns-clause-fits : goal.returns-clause-fits
 returns-clause-fits g c = subst (λ x. EachFits g.B.Resource x.stores) (sym c.keep_group-group.ensures.same) c.put_group.ensures.fits
+
+pub keep_group-group-requires-clause-few : goal.keep_group-group-requires-clause-few
+keep_group-group-requires-clause-few g c = few_queued c.args.engine.now c.invariant_holds.ensures.run c.args.pieces.now.items c.requires.queued

@@ -1,71 +1,76 @@
-use Rattle.std.proofs.Common.{◌∙◌, length, inl, inr, rules, sym, subst}
+use Rattle.std.proofs.Common.{◌∙◌, List, inl, inr, rules, sym, subst}
 use Rattle.process_disk.specs.Images.{EachImage}
-use Rattle.schedule_model.specs.Histories.{acts}
-use Rattle.process_core.specs.Cores.{history_of}
-use Rattle.process_engine.specs.Events.{ListsEffects}
+use Rattle.subsystem_store.specs.declared.effect.Effect.{Effect}
 use Rattle.history_files.specs.Sound.{IsSound, IsSoundForEither}
 use Rattle.process_disk.proofs.Images.{each_so, each_then, follow_then}
 use Rattle.std.specs.Prelude.{OnOk}
 use Rattle.engine_steps.specs.Engines.{full_history}
-use Rattle.engine_steps.specs.Groups.{IsGroupCommitted, with_events}
+use Rattle.engine_steps.specs.Groups.{IsGroupCommitted, MayBeRecorded, with_events}
+use Rattle.engine_steps.specs.Listing.{next_group}
 use Rattle.process_engine.proofs.GroupPut.{MeetsEach, group_meets, images_of_three, recordable}
 use Rattle.process_engine.proofs.flushing.put_group.Given as given
 use Rattle.process_engine.proofs.flushing.put_group.Goals as goal
-use Rattle.process_engine.proofs.flushing.put_group.Goals.{After-group_of-group}
+use Rattle.process_engine.proofs.flushing.put_group.Goals.{After-stores_hold}
 
 -- what the steps ask of the group
-meets : (g : given.Over) (c : goal.After-group_of-group g) → MeetsEach c.args.engine.now c.args.events.now c.group_of-group.result
+meets : (g : given.Over) (c : goal.After-stores_hold g) → MeetsEach c.args.engine.now c.args.events.now
 meets g c =
     let e = c.args.engine.now in
     let ps = c.requires.group.0 in
-    let is = c.requires.group.2 in
-    subst (λ es. MeetsEach e es c.group_of-group.result) (sym is)
-    (group_meets c.events_add_effects.ensures.act c.events_add_effects.ensures.end c.next_effects_may_be_prepared.ensures c.journals_keep_histories.ensures.made e (g.R.Rack.disk e.files.rack) c.invariant_holds.ensures.run c.invariant_holds.ensures.under
-    (c.invariant_holds.ensures.rest c.requires.settled) c.stores_hold.ensures ps c.requires.group.1 c.group_of-group.result
-    (subst (λ es. ListsEffects e.catalog.ops e.core.plans (length (acts (history_of e.core))) es c.group_of-group.result) is c.group_of-group.ensures))
+    subst (MeetsEach e) (sym c.requires.group.2)
+    (group_meets c.groups_may_be_prepared.ensures c.journals_keep_histories.ensures.made e (g.R.Rack.disk e.files.rack) c.invariant_holds.ensures.run c.invariant_holds.ensures.under
+    (c.invariant_holds.ensures.rest c.requires.settled) c.stores_hold.ensures ps c.requires.group.1)
 
-pub effects_fit-requires : goal.effects_fit-requires
-effects_fit-requires g c = (meets g (goal.at.effects_fit-requires g c).After-group_of-group).amounts
+-- the effects of its events
+effects_of : (g : given.Over) (c : goal.After-stores_hold g) → List (List Effect)
+effects_of g c = next_group c.args.engine.now.catalog.ops (full_history c.args.engine.now.core) c.args.events.now
+
+pub prepare_group-requires-clause-amounts : goal.prepare_group-requires-clause-amounts
+prepare_group-requires-clause-amounts g c = (meets g (goal.at.prepare_group-requires-clause-amounts g c).After-stores_hold).amounts
 
 pub prepare_group-requires-clause-may : goal.prepare_group-requires-clause-may
-prepare_group-requires-clause-may g c = (meets g (goal.at.prepare_group-requires-clause-may g c).After-group_of-group).may
+prepare_group-requires-clause-may g c = (meets g (goal.at.prepare_group-requires-clause-may g c).After-stores_hold).may
 
 pub prepare_group-requires-clause-lacks : goal.prepare_group-requires-clause-lacks
-prepare_group-requires-clause-lacks g c = (meets g (goal.at.prepare_group-requires-clause-lacks g c).After-group_of-group).lacks
+prepare_group-requires-clause-lacks g c = (meets g (goal.at.prepare_group-requires-clause-lacks g c).After-stores_hold).lacks
 
 pub prepare_group-requires-clause-events : goal.prepare_group-requires-clause-events
-prepare_group-requires-clause-events g c = (meets g (goal.at.prepare_group-requires-clause-events g c).After-group_of-group).are_events
+prepare_group-requires-clause-events g c = (meets g (goal.at.prepare_group-requires-clause-events g c).After-stores_hold).are_events
 
 pub record_group-requires-clause-may : goal.record_group-requires-clause-may
+unfolding effects_of next_group
 record_group-requires-clause-may g c = (
   c.args.events.now,
-  c.group_of-group.result,
-  (recordable c.args.engine.now c.prepare_group.new.self (g.R.Rack.disk c.prepare_group.new.self.files.rack) c.args.events.now c.group_of-group.result (meets g (goal.at.record_group-requires-clause-may g c).After-group_of-group)
+  effects_of g (goal.at.record_group-requires-clause-may g c).After-stores_hold,
+  (recordable c.args.engine.now c.prepare_group.new.self (g.R.Rack.disk c.prepare_group.new.self.files.rack) c.args.events.now (meets g (goal.at.record_group-requires-clause-may g c).After-stores_hold)
       c.prepare_group.ensures.step.core c.prepare_group.ensures.step.catalog c.in_ok-prepare_group.ensures.prepared),
 )
 
 pub commit_group-requires-clause-recorded : goal.commit_group-requires-clause-recorded
+unfolding effects_of next_group
 commit_group-requires-clause-recorded g c = (
-  c.group_of-group.result,
+  effects_of g (goal.at.commit_group-requires-clause-recorded g c).After-stores_hold,
   with_events (full_history c.prepare_group.new.self.core) c.args.events.now,
-  c.in_ok-record_group.ensures.recorded c.args.events.now c.group_of-group.result (recordable c.args.engine.now c.prepare_group.new.self (g.R.Rack.disk c.prepare_group.new.self.files.rack) c.args.events.now c.group_of-group.result (meets g (goal.at.commit_group-requires-clause-recorded g c).After-group_of-group)
+  c.in_ok-record_group.ensures.recorded c.args.events.now (effects_of g (goal.at.commit_group-requires-clause-recorded g c).After-stores_hold) (recordable c.args.engine.now c.prepare_group.new.self (g.R.Rack.disk c.prepare_group.new.self.files.rack) c.args.events.now (meets g (goal.at.commit_group-requires-clause-recorded g c).After-stores_hold)
       c.prepare_group.ensures.step.core c.prepare_group.ensures.step.catalog c.in_ok-prepare_group.ensures.prepared),
 )
 
 pub returns-clause-committed : goal.returns-clause-committed
+unfolding effects_of next_group
 returns-clause-committed g c =
-    let recorded = c.in_ok-record_group.ensures.recorded c.args.events.now c.group_of-group.result (recordable c.args.engine.now c.prepare_group.new.self (g.R.Rack.disk c.prepare_group.new.self.files.rack) c.args.events.now c.group_of-group.result (meets g (goal.at.returns-clause-committed g c).After-group_of-group)
+    let recorded = c.in_ok-record_group.ensures.recorded c.args.events.now (effects_of g (goal.at.returns-clause-committed g c).After-stores_hold) (recordable c.args.engine.now c.prepare_group.new.self (g.R.Rack.disk c.prepare_group.new.self.files.rack) c.args.events.now (meets g (goal.at.returns-clause-committed g c).After-stores_hold)
     c.prepare_group.ensures.step.core c.prepare_group.ensures.step.catalog c.in_ok-prepare_group.ensures.prepared) in
     subst (λ k. OnOk c.commit_group.result (IsGroupCommitted c.commit_group.new.self (g.R.Rack.disk c.commit_group.new.self.files.rack) (with_events (full_history k) c.args.events.now))) c.prepare_group.ensures.step.core
-    (c.commit_group.ensures.committed c.group_of-group.result (with_events (full_history c.prepare_group.new.self.core) c.args.events.now) recorded)
+    (c.commit_group.ensures.committed (effects_of g (goal.at.returns-clause-committed g c).After-stores_hold) (with_events (full_history c.prepare_group.new.self.core) c.args.events.now) recorded)
 
 -- each image of the first two steps
 pub returns-in_err-record_group-clause-any_moment : goal.returns-in_err-record_group-clause-any_moment
+unfolding effects_of next_group
 returns-in_err-record_group-clause-any_moment g c told =
     let e = c.args.engine.now in
     let prepared = c.prepare_group.ensures in
     let written = c.record_group.ensures in
-    let may = recordable e c.prepare_group.new.self (g.R.Rack.disk c.prepare_group.new.self.files.rack) c.args.events.now c.group_of-group.result (meets g (goal.at.returns-in_err-record_group-clause-any_moment g c).After-group_of-group)
+    let may = recordable e c.prepare_group.new.self (g.R.Rack.disk c.prepare_group.new.self.files.rack) c.args.events.now (meets g (goal.at.returns-in_err-record_group-clause-any_moment g c).After-stores_hold)
     prepared.step.core prepared.step.catalog c.in_ok-prepare_group.ensures.prepared in
     let told_one = prepared.rack.tells ∙ told in
     let events = c.args.events.now in
@@ -76,17 +81,18 @@ returns-in_err-record_group-clause-any_moment g c told =
     (each_so disk_one (g.R.Rack.disk e.files.rack).moment (IsSound e.catalog (full_history e.core)) P (λ files sound. inl sound) (prepared.any_moment told))
     (subst (λ k. EachImage disk_two disk_one.moment (IsSoundForEither e.catalog (full_history k) (with_events (full_history k) events))) prepared.step.core
     (subst (λ d. EachImage disk_two disk_one.moment (IsSoundForEither d (full_history c.prepare_group.new.self.core) (with_events (full_history c.prepare_group.new.self.core) events))) prepared.step.catalog
-    (written.any_moment told_one events c.group_of-group.result may)))
+    (written.any_moment told_one events (effects_of g (goal.at.returns-in_err-record_group-clause-any_moment g c).After-stores_hold) may)))
 
 pub returns-clause-any_moment : goal.returns-clause-any_moment
+unfolding effects_of next_group
 returns-clause-any_moment g c told =
     let e = c.args.engine.now in
     let prepared = c.prepare_group.ensures in
     let written = c.record_group.ensures in
     let later = c.commit_group.ensures in
-    let may = recordable c.args.engine.now c.prepare_group.new.self (g.R.Rack.disk c.prepare_group.new.self.files.rack) c.args.events.now c.group_of-group.result (meets g (goal.at.returns-clause-any_moment g c).After-group_of-group)
+    let may = recordable c.args.engine.now c.prepare_group.new.self (g.R.Rack.disk c.prepare_group.new.self.files.rack) c.args.events.now (meets g (goal.at.returns-clause-any_moment g c).After-stores_hold)
     c.prepare_group.ensures.step.core c.prepare_group.ensures.step.catalog c.in_ok-prepare_group.ensures.prepared in
-    let recorded = c.in_ok-record_group.ensures.recorded c.args.events.now c.group_of-group.result may in
+    let recorded = c.in_ok-record_group.ensures.recorded c.args.events.now (effects_of g (goal.at.returns-clause-any_moment g c).After-stores_hold) may in
     let told_one = prepared.rack.tells ∙ told in
     let told_two = written.rack.tells ∙ told_one in
     let events = c.args.events.now in
@@ -98,11 +104,11 @@ returns-clause-any_moment g c told =
     (prepared.rack.follow told) (written.rack.follow told_one) (later.rack.follow told_two)
     (each_so disk_one (g.R.Rack.disk e.files.rack).moment (IsSound e.catalog (full_history e.core)) P (λ files sound. inl sound) (prepared.any_moment told))
     (subst (λ k. EachImage disk_two disk_one.moment (IsSoundForEither e.catalog (full_history k) (with_events (full_history k) events))) prepared.step.core
-    (subst (λ d. EachImage disk_two disk_one.moment (IsSoundForEither d (full_history c.prepare_group.new.self.core) (with_events (full_history c.prepare_group.new.self.core) events))) prepared.step.catalog (written.any_moment told_one events c.group_of-group.result may)))
+    (subst (λ d. EachImage disk_two disk_one.moment (IsSoundForEither d (full_history c.prepare_group.new.self.core) (with_events (full_history c.prepare_group.new.self.core) events))) prepared.step.catalog (written.any_moment told_one events (effects_of g (goal.at.returns-clause-any_moment g c).After-stores_hold) may)))
     (each_so disk_three disk_two.moment (IsSound e.catalog (with_events (full_history e.core) events)) P (λ files sound. inr sound)
     (subst (λ k. EachImage disk_three disk_two.moment (IsSound e.catalog (with_events (full_history k) events))) prepared.step.core
     (subst (λ d. EachImage disk_three disk_two.moment (IsSound d (with_events (full_history c.prepare_group.new.self.core) events))) (written.step.catalog ∙ prepared.step.catalog)
-    (later.any_moment told_two c.group_of-group.result (with_events (full_history c.prepare_group.new.self.core) events) recorded))))
+    (later.any_moment told_two (effects_of g (goal.at.returns-clause-any_moment g c).After-stores_hold) (with_events (full_history c.prepare_group.new.self.core) events) recorded))))
 
 pub returns-clause-rack : goal.returns-clause-rack
 returns-clause-rack g c = record {

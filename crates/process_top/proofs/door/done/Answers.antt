@@ -20,7 +20,7 @@ pub returns-in-Init-clause-due : goal.returns-in-Init-clause-due
 returns-in-Init-clause-due g c =
     rw c.in-Init.is
     (rw c.unsaid.ensures (
-      init_says c.in-Init.values (input g.S.Source c.args.source.now) (input g.S.Source c.init.new.source) (files g.R.Rack c.args.parts.rack) (files g.R.Rack c.init.result.parts.rack) c.init.result.found c.init.ensures.due,
+      init_says c.in-Init.values c.in-Init.strict (input g.S.Source c.args.source.now) (input g.S.Source c.init.new.source) (files g.R.Rack c.args.parts.rack) (files g.R.Rack c.init.result.parts.rack) c.init.result.found c.init.ensures.due,
       refl,
     ))
 

@@ -13,8 +13,8 @@ prepare_each-requires-clause-may g c = λ q s at some.
     let room = c.make_room.ensures.same in
     let unused = c.in-Ok.ensures.unused in
     let may = one_may c.args.effect c.make_room.new.self _ c.requires.forward (room.2 ∙ unused.2) (room.3 ∙ unused.3) c.in-Ok-make_room.ensures.ok in
-    subst (λ (x : Opened g.row.B.Denot). MayPrepare x (effects_for (c.new.result ∷ []) q)) (sym is.1)
-    (subst (λ n. MayPrepare c.make_room.new.self (effects_for (c.new.result ∷ []) n)) (sym is.0) (subst (MayPrepare c.make_room.new.self) (sym c.new.ensures) may))
+    subst (λ (x : Opened g.row.B.Denot). MayPrepare x (effects_for (c.push.new.self ∷ []) q)) (sym is.1)
+    (subst (λ n. MayPrepare c.make_room.new.self (effects_for (c.push.new.self ∷ []) n)) (sym is.0) (subst (MayPrepare c.make_room.new.self) (sym (c.push.ensures ∙ ap (λ es. es ++ c.args.effect ∷ []) c.in-Ok-new.ensures)) may))
 
 pub prepare_each-requires-clause-fits : goal.prepare_each-requires-clause-fits
 prepare_each-requires-clause-fits g c = λ q s at.

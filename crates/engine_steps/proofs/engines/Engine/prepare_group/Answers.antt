@@ -1,4 +1,5 @@
-use Rattle.std.proofs.Common.{◌≡◌, ◌∙◌, length, arith, ap, sym, subst}
+use Rattle.std.proofs.Common.{◌≡◌, ◌∙◌, List, false, length, arith, ap, sym, subst}
+use Rattle.subsystem_store.specs.declared.effect.Effect.{Effect}
 use Rattle.process_disk.specs.Disk.{Told}
 use Rattle.process_disk.specs.Images.{EachImage}
 use Rattle.gate_log.specs.Staging.{staging_all, unstaged}
@@ -9,7 +10,8 @@ use Rattle.history_files.specs.Groups.{LacksEach}
 use Rattle.history_files.specs.Sound.{IsSound}
 use Rattle.history_files.specs.Standing.{AreGoodBooks, EachFits, Stand}
 use Rattle.engine_steps.specs.Engines.{AreAtRest, full_history}
-use Rattle.engine_steps.specs.Groups.{TouchesJournal, bodies_of}
+use Rattle.engine_steps.specs.Groups.{IsGroupPrepared, TouchesJournal, bodies_of, has_effect}
+use Rattle.engine_steps.specs.Listing.{AreAmounts, next_group}
 use Rattle.engine_steps.specs.declared.engines.Phase.TheVariants as phase
 use Rattle.engine_steps.proofs.GroupSteps.{files_are, group_prepared, some_bodies, stands_staged, with_log}
 use Rattle.engine_steps.proofs.engines.Engine.prepare_group.Given as given
@@ -20,8 +22,12 @@ use Rattle.engine_steps.proofs.engines.Engine.prepare_group.Goals.{After-stage_e
 rest : (g : given.Over) (c : After-stage_each g) → AreAtRest c.self.inside.catalog (full_history c.self.inside.core) c.self.inside.files (g.R.Rack.disk c.self.inside.files.rack)
 rest g c = c.self.invariant.1 (subst (λ x. x.phase ≡ phase.Settled) (sym c.self.view_is) c.requires.settled)
 
-lacks : (g : given.Over) (c : After-stage_each g) → LacksEach c.self.inside.catalog.ops (full_history c.self.inside.core) c.args.group.now
-lacks g c = subst (λ x. LacksEach x.catalog.ops (full_history x.core) c.args.group.now) (sym c.self.view_is) c.requires.lacks
+-- the effects of the events were lacking,
+abbrev listed : (g : given.Over) → After-stage_each g → List (List Effect)
+listed g c = next_group c.self.inside.catalog.ops (full_history c.self.inside.core) c.args.events.now
+
+lacks : (g : given.Over) (c : After-stage_each g) → LacksEach c.self.inside.catalog.ops (full_history c.self.inside.core) (listed g c)
+lacks g c = subst (λ x. LacksEach x.catalog.ops (full_history x.core) (next_group x.catalog.ops (full_history x.core) c.args.events.now)) (sym c.self.view_is) c.requires.lacks
 
 -- with the records staged nothing else changed,
 staged : (g : given.Over) (c : After-stage_each g) → c.stage_each.new.files.journal ≡ staging_all (unstaged c.self.inside.files.journal) (bodies_of c.args.events.now)
@@ -56,10 +62,16 @@ write_group-requires-clause-fits g c =
     let c = (goal.at.write_group-requires-clause-fits g c).After-stage_each in
     subst (EachFits g.B.Resource) (sym (same g c)) (subst (λ x. EachFits g.B.Resource x.files.stores) (sym c.self.view_is) c.requires.fits)
 
+pub effects_fit-requires : goal.effects_fit-requires
+effects_fit-requires g c =
+    subst AreAmounts (sym (c.as_slice.ensures ∙ c.list_next.ensures)) (subst (λ x. AreAmounts (next_group x.catalog.ops (full_history x.core) c.args.events.now)) (sym c.self.view_is) c.requires.amounts)
+
 pub write_group-requires-clause-may : goal.write_group-requires-clause-may
 write_group-requires-clause-may g c =
-    let c = (goal.at.write_group-requires-clause-may g c).After-stage_each in
-    subst (MayPrepareEach c.args.group.now) (sym (same g c)) (subst (λ x. MayPrepareEach c.args.group.now x.files.stores) (sym c.self.view_is) c.requires.may)
+    let d = (goal.at.write_group-requires-clause-may g c).After-stage_each in
+    subst (λ group. MayPrepareEach group c.stage_each.new.files.stores) (sym (c.as_slice-2.ensures ∙ c.list_next.ensures))
+    (subst (MayPrepareEach (listed g d)) (sym (same g d))
+    (subst (λ x. MayPrepareEach (next_group x.catalog.ops (full_history x.core) c.args.events.now) x.files.stores) (sym c.self.view_is) c.requires.may))
 
 pub write_group-requires-clause-stand : goal.write_group-requires-clause-stand
 write_group-requires-clause-stand g c told =
@@ -70,12 +82,19 @@ pub returns-in-Ok-clause-prepared : goal.returns-in-Ok-clause-prepared
 returns-in-Ok-clause-prepared g c =
     let d = (goal.at.returns-in-Ok-clause-prepared g c).After-stage_each in
     let files = c.write_group.new.files in
-    group_prepared c.self.inside.catalog c.self.inside.core c.self.inside.files files (g.R.Rack.disk c.self.inside.files.rack) (g.R.Rack.disk files.rack) c.args.events.now c.args.group.now (rest g d) c.requires.events
+    let core = c.self.inside.core in
+    let catalog = c.self.inside.catalog in
+    let events = c.args.events.now in
+    let is = c.as_slice-2.ensures ∙ c.list_next.ensures in
+    let lacked = subst (LacksEach catalog.ops (full_history core)) (sym is) (lacks g d) in
+    subst (λ x. IsGroupPrepared (record { core = core; catalog = catalog; files = files; phase = phase.UnderWay }) (g.R.Rack.disk files.rack) events (next_group x.catalog.ops (full_history x.core) events)) c.self.view_is
+    (group_prepared catalog core c.self.inside.files files (g.R.Rack.disk c.self.inside.files.rack) (g.R.Rack.disk files.rack) events (listed g d) (rest g d) c.requires.events
     (c.write_group.ensures.journal ∙ staged g d)
-    (subst (λ ss. BecomeEach (λ q s t. IsPrepared (effects_for c.args.group.now q) s t) ss files.stores) (same g d) c.in-Ok.ensures.ok)
+    (subst (λ group. BecomeEach (λ q s t. IsPrepared (effects_for group q) s t) c.self.inside.files.stores files.stores) is
+    (subst (λ ss. BecomeEach (λ q s t. IsPrepared (effects_for c.as_slice-2.result.now q) s t) ss files.stores) (same g d) c.in-Ok.ensures.ok))
     (c.write_group.ensures.good (subst AreGoodBooks (sym (same g d)) (rest g d).good))
-    (λ told. let before = sym c.write_group.ensures.rack.tells ∙ told in c.in-Ok.ensures.acknowledged before c.self.inside.catalog (full_history c.self.inside.core) (stand g d before) (lacks g d))
-    (λ told. let before = sym c.write_group.ensures.rack.tells ∙ told in c.in-Ok.ensures.on_disk before c.self.inside.catalog (full_history c.self.inside.core) (stand g d before))
+    (λ told. let before = sym c.write_group.ensures.rack.tells ∙ told in c.in-Ok.ensures.acknowledged before catalog (full_history core) (stand g d before) lacked)
+    (λ told. let before = sym c.write_group.ensures.rack.tells ∙ told in c.in-Ok.ensures.on_disk before catalog (full_history core) (stand g d before)))
 
 -- each image meanwhile is sound
 pub returns-in-Ok-clause-any_moment : goal.returns-in-Ok-clause-any_moment
@@ -84,9 +103,10 @@ returns-in-Ok-clause-any_moment g c =
     let later = g.R.Rack.disk c.write_group.new.files.rack in
     let catalog = c.self.inside.catalog in
     let h = full_history c.self.inside.core in
+    let lacked = subst (LacksEach catalog.ops h) (sym (c.as_slice-2.ensures ∙ c.list_next.ensures)) (lacks g d) in
     subst (λ x. Told (g.R.Rack.disk x.files.rack) → EachImage later (g.R.Rack.disk x.files.rack).moment (IsSound x.catalog (full_history x.core))) c.self.view_is
     (subst (λ f. Told (g.R.Rack.disk f.rack) → EachImage later (g.R.Rack.disk f.rack).moment (IsSound catalog h)) (are g d)
-    (λ told. c.write_group.ensures.any_moment told catalog h (stand g d told) (lacks g d)))
+    (λ told. c.write_group.ensures.any_moment told catalog h (stand g d told) lacked))
 
 pub returns-in-Err-clause-any_moment : goal.returns-in-Err-clause-any_moment
 returns-in-Err-clause-any_moment g c =
@@ -94,18 +114,23 @@ returns-in-Err-clause-any_moment g c =
     let later = g.R.Rack.disk c.write_group.new.files.rack in
     let catalog = c.self.inside.catalog in
     let h = full_history c.self.inside.core in
+    let lacked = subst (LacksEach catalog.ops h) (sym (c.as_slice-2.ensures ∙ c.list_next.ensures)) (lacks g d) in
     subst (λ x. Told (g.R.Rack.disk x.files.rack) → EachImage later (g.R.Rack.disk x.files.rack).moment (IsSound x.catalog (full_history x.core))) c.self.view_is
     (subst (λ f. Told (g.R.Rack.disk f.rack) → EachImage later (g.R.Rack.disk f.rack).moment (IsSound catalog h)) (are g d)
-    (λ told. c.write_group.ensures.any_moment told catalog h (stand g d told) (lacks g d)))
+    (λ told. c.write_group.ensures.any_moment told catalog h (stand g d told) lacked))
 
 pub returns-in-Ok-clause-none : goal.returns-in-Ok-clause-none
 returns-in-Ok-clause-none g c none =
     let d = (goal.at.returns-in-Ok-clause-none g c).After-stage_each in
-    let touches = subst (λ f. TouchesJournal g.R.Rack.disk f c.write_group.new.files) (are g d) (c.write_group.ensures.none none) in
+    let nothing = subst (λ group. has_effect group ≡ false) (sym (c.as_slice-2.ensures ∙ c.list_next.ensures))
+    (subst (λ x. has_effect (next_group x.catalog.ops (full_history x.core) c.args.events.now) ≡ false) (sym c.self.view_is) none) in
+    let touches = subst (λ f. TouchesJournal g.R.Rack.disk f c.write_group.new.files) (are g d) (c.write_group.ensures.none nothing) in
     subst (λ x. TouchesJournal g.R.Rack.disk x.files c.write_group.new.files) c.self.view_is (record { stores = touches.stores; others = touches.others })
 
 pub returns-in-Err-clause-none : goal.returns-in-Err-clause-none
 returns-in-Err-clause-none g c none =
     let d = (goal.at.returns-in-Err-clause-none g c).After-stage_each in
-    let touches = subst (λ f. TouchesJournal g.R.Rack.disk f c.write_group.new.files) (are g d) (c.write_group.ensures.none none) in
+    let nothing = subst (λ group. has_effect group ≡ false) (sym (c.as_slice-2.ensures ∙ c.list_next.ensures))
+    (subst (λ x. has_effect (next_group x.catalog.ops (full_history x.core) c.args.events.now) ≡ false) (sym c.self.view_is) none) in
+    let touches = subst (λ f. TouchesJournal g.R.Rack.disk f c.write_group.new.files) (are g d) (c.write_group.ensures.none nothing) in
     subst (λ x. TouchesJournal g.R.Rack.disk x.files c.write_group.new.files) c.self.view_is (record { stores = touches.stores; others = touches.others })

@@ -1,0 +1,3 @@
+mod Backwards
+mod Steps
+mod WrittenOut
