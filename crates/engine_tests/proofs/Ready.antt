@@ -10,6 +10,7 @@ use Rattle.history_files.specs.Standing.{EachFits}
 use Rattle.engine_steps.specs.Engines.{EngineState, with_core}
 use Rattle.engine_steps.specs.declared.engines.Phase.{Phase}
 use Rattle.engine_steps.specs.declared.engines.Phase.TheVariants as phase
+use Rattle.process_engine.proofs.StillQueued.{none_queued}
 use Rattle.process_engine.specs.Queues.{AreQueued}
 use Rattle.process_engine.proofs.QueuedCalls.{queued_at_abort, queued_at_next}
 use Rattle.engine_calls.specs.Runs.{IsReady as IsReadyToRun}
@@ -47,7 +48,7 @@ pub none_queued : {R B : Type 0} (box : Resources B) (e : EngineState R B) (grou
     → group ≡ [] → MayQueue box e group
 none_queued box e group ready none = record {
   ready = ready;
-  queued = subst (AreQueued e) (sym none) (record { unfinished = tt; distinct = tt; apart = tt; ends = omega arith; few = omega arith; room = tt });
+  queued = subst (AreQueued e) (sym none) (none_queued e);
 }
 
 -- what is queued stays so where any piece is asked for,

@@ -5,8 +5,8 @@ use Rattle.std.proofs.lemmas.Bool.{and_parts, eqb-true}
 use Rattle.exactly_once.specs.Names.{Name, Do, Undo, Work, Absent, Prepared, Committed, commits, count, has}
 use Rattle.exactly_once.specs.Settling.{Answer, Done, Undone, NotDone, Unknown, NoStep, Action, Nothing, StopLost, StopAhead, settle, state_of}
 use Rattle.exactly_once.specs.Machine.{Event, World, is_in, is_working, run, start, told}
-use Rattle.exactly_once.specs.Laws.{AreAtRest, IsExact, IsExactlyOnce, NobodyHasToDecide, NothingIsDoneTwice, NothingIsLeftOver, WhatIsCommittedStays, stands}
-use Rattle.exactly_once.proofs.Facts.{Fits, InOrder, Right, Sound, Waits, Works, job_of}
+use Rattle.exactly_once.specs.Laws.{InOrder, AreAtRest, IsExact, IsExactlyOnce, NobodyHasToDecide, NothingIsDoneTwice, NothingIsLeftOver, WhatIsCommittedStays, stands}
+use Rattle.exactly_once.proofs.Facts.{Fits, Right, Sound, Waits, Works, job_of}
 use Rattle.exactly_once.proofs.Sound.{again, run_sound, start_sound, works_of}
 use Rattle.exactly_once.proofs.Tables.{Fitting, done≢not_done, done≢undone, never_no_step, never_unknown, may_do_not_done, may_undo_done, rest_times, right_possible, settles_fit, undone≢not_done}
 use Rattle.exactly_once.proofs.Tests.{or_first, or_second}
@@ -155,7 +155,7 @@ nothing_is_done_twice es (Undo i b) =
 
 -- What the files tell of is in the history.
 
-told_has_do : (ns : List Name) (i b : ℕ) → InOrder ns → told ns i b ≢ NotDone → IsTrue (has ns (Do i b))
+pub told_has_do : (ns : List Name) (i b : ℕ) → InOrder ns → told ns i b ≢ NotDone → IsTrue (has ns (Do i b))
 told_has_do [] i b order not = absurd (not refl)
 told_has_do (Do j c ∷ ns) i b order not = by_step (eqb j i && eqb c b) (told_has_do ns i b order.1) not
   where

@@ -4,7 +4,7 @@ use Rattle.std.specs.Bool.{IsTrue}
 use Rattle.exactly_once.specs.Names.{Name, Do, Undo, Work, Absent, Prepared, Committed, process_of, has, commits}
 use Rattle.exactly_once.specs.Settling.{Answer, Done, Undone, NotDone}
 use Rattle.exactly_once.specs.Machine.{Stage, Handed, Preparing, Ready, Said, Kept, Committing, TakingBack, CarryingOut, Piece, World, told, may_follow, is_in, is_over, is_opened, is_working}
-use Rattle.exactly_once.specs.Laws.{AreAtRest}
+use Rattle.exactly_once.specs.Laws.{AreAtRest, InOrder}
 
 -- what the first piece of its process is at, if it is of this step
 pub data Job : Type 0 where
@@ -118,11 +118,6 @@ pub record Waits (w : World) : Type 0 where
   -- what is under way in a settling is of a step that was found
   pub found : is_opened w.phase ≡ true → (i : ℕ) → w.pieces i ≢ [] → (n : Name) × (process_of n ≡ i) × IsTrue (has w.names n)
   pub over : (i : ℕ) → IsTrue (is_done_with w i) → (w.pieces i ≡ []) × ((b : ℕ) → AreAtRest (told w.kept i b) (w.work (Do i b)) (w.work (Undo i b)))
-
--- each effect of the history might follow those before it
-abbrev pub InOrder : List Name → Type 0
-InOrder [] = Unit
-InOrder (n ∷ ns) = IsTrue (may_follow ns n) × InOrder ns
 
 -- Sound: at each moment behind one at which the history was this.
 pub record Sound (old : List Name) (w : World) : Type 0 where

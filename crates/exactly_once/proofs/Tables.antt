@@ -69,6 +69,12 @@ done≢not_done = differ is_done Done NotDone refl refl
 pub undone≢not_done : Undone ≢ NotDone
 undone≢not_done = differ is_undone Undone NotDone refl refl
 
+pub unknown≢not_done : Unknown ≢ NotDone
+unknown≢not_done e = differ is_not_done NotDone Unknown refl refl (sym e)
+
+pub no_step≢not_done : NoStep ≢ NotDone
+no_step≢not_done e = differ is_not_done NotDone NoStep refl refl (sym e)
+
 pub not_done≢done : NotDone ≢ Done
 not_done≢done e = done≢not_done (sym e)
 

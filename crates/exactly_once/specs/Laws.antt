@@ -2,7 +2,7 @@
 use Rattle.std.specs.Prelude.{◌≡◌, ◌≢◌, ◌≤◌, ◌+◌, ℕ, List, [], ◌∷◌, IsTrue}
 use Rattle.exactly_once.specs.Names.{Name, Do, Undo, Work, Absent, Prepared, Committed, has, count, process_of, step_of}
 use Rattle.exactly_once.specs.Settling.{Answer, Done, Undone, NotDone, Unknown, NoStep, StopLost, StopAhead}
-use Rattle.exactly_once.specs.Machine.{World, Event, GoesOn, Lands, Opens, Settles, action, is_closed, is_in, is_over, is_working, run, start, told}
+use Rattle.exactly_once.specs.Machine.{World, Event, GoesOn, Lands, Opens, Settles, action, is_closed, is_in, is_over, is_working, may_follow, run, start, told}
 
 -- the work of a step, and that of its undo, with nothing under way: what is done stands committed, what isn't done is absent, and
 -- what is undone was taken back, or was never committed
@@ -12,6 +12,11 @@ AreAtRest Undone s u = (s ≡ u) × (s ≢ Prepared)
 AreAtRest NotDone s u = (s ≡ Absent) × (u ≡ Absent)
 AreAtRest Unknown s u = ⊥
 AreAtRest NoStep s u = ⊥
+
+-- each of these effects, the newest first, may follow those before it
+abbrev pub InOrder : List Name → Type 0
+InOrder [] = Unit
+InOrder (n ∷ ns) = IsTrue (may_follow ns n) × InOrder ns
 
 -- how often the work of a step stands
 abbrev pub stands : Answer → ℕ

@@ -160,3 +160,7 @@ queued_with_room e later group d room adds queued is handed out new there =
       room = subst (Each (HasRoomFor (with_stores e later))) (sym more) (Each-append (HasRoomFor (with_stores e later)) (pieces_of group) (d.piece ∷ []) rooms ((λ forward. there), tt));
       places = subst (HasPlaces (with_stores e later)) (sym more) (places_more e later d.piece adds (pieces_of group) queued.places);
     })
+
+-- nothing is queued at any engine
+pub none_queued : {R B : Type 0} (e : EngineState R B) → AreQueued e []
+none_queued e = record { unfinished = tt; distinct = tt; active = tt; room = tt; places = λ q s at. omega arith }

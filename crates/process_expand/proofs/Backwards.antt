@@ -5,7 +5,7 @@ use Rattle.process_expand.specs.declared.tokens.Token.{Token}
 use Rattle.process_expand.specs.Expansion.{State, names_one, state_from, steps_in, IsTooLong}
 
 steps-append : (xs ys : List Token) → steps_in (xs ++ ys) ≡ steps_in xs + steps_in ys
-steps-append [] ys = refl
+steps-append [] ys = omega arith
 steps-append (x ∷ xs) ys =
     let later = steps-append xs ys in
     let first = ap (λ (n : ℕ). names_one x.role + n) later in

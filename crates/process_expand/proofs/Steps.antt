@@ -1,5 +1,5 @@
 -- One step of each walk: along the numbers of a name, the options of a step, the words of a text.
-use Rattle.std.proofs.Common.{◌≡◌, ◌∙◌, ◌<◌, ◌≤◌, ◌+◌, ◌-◌, ℕ, zero, suc, List, [], ◌∷◌, ◌++◌, Bool, true, false, drop, length, refl, ap, sym, subst, arith, if◌then◌else◌}
+use Rattle.std.proofs.Common.{◌≡◌, ◌∙◌, ◌⊎◌, ◌<◌, ◌≤◌, ◌+◌, ◌-◌, inl, inr, ℕ, zero, suc, List, [], ◌∷◌, ◌++◌, Bool, true, false, drop, length, refl, ap, sym, subst, arith, if◌then◌else◌}
 use Rattle.std.specs.Prelude.{Option, Some, None, slice_get}
 use Rattle.process_tree.specs.Making.{same_text}
 use Rattle.text_words.specs.declared.marks.Setting.{Setting}
@@ -10,8 +10,15 @@ use Rattle.process_expand.specs.declared.tokens.Role.{Role}
 use Rattle.process_expand.specs.declared.tokens.Role.TheVariants.{Other}
 use Rattle.process_expand.specs.declared.tokens.Token.{Token}
 use Rattle.process_expand.specs.Layout.{indent}
-use Rattle.process_expand.specs.Naming.{first_free, is_taken, numbered}
-use Rattle.process_expand.specs.Reading.{after_turn, role_at, role_behind, told_from, tokens_from, turn_at}
+use Rattle.std.proofs.lemmas.List.{length-drop}
+use Rattle.text_words.specs.Words.{words_of}
+use Rattle.process_text.specs.Places.{error_at}
+use Rattle.process_text.specs.declared.error.TextError.{TextError}
+use Rattle.process_text.specs.declared.error.TextError.TheVariants.{NoMemory}
+use Rattle.process_expand.specs.declared.places.Fault.{Fault as OwnFault}
+use Rattle.process_expand.specs.Reader.{text_fault, IsStop}
+use Rattle.process_expand.specs.Naming.{first_free, is_taken, numbered, word_at}
+use Rattle.process_expand.specs.Reading.{answered, fault_of, first_fault, after_turn, role_at, role_behind, told_from, tokens_from, turn_at}
 
 -- two spaces for one more block
 pub indent_more : (n : ℕ) → 0 < n → indent n ≡ 32 ∷ 32 ∷ indent (n - 1)
@@ -104,3 +111,21 @@ token_next b c p q ws n w r is turn role =
     ap (tokens_from b p n) (drop_get ws n w is)
     ∙ ap (λ (t : Turn). record { role = role_at b p w; number = n } ∷ after_turn t (λ d s. tokens_from d s (n + 1) (drop (n + 1) ws))) turn
     ∙ ap (λ (x : Role). record { role = x; number = n } ∷ tokens_from c q (n + 1) (drop (n + 1) ws)) (sym role)
+
+pub at_word : (ws : List (List ℕ)) (n : ℕ) → n < length ws → slice_get ws n ≡ Some (word_at ws n)
+at_word [] n within = absurd (omega (arith, within))
+at_word (w ∷ ws) zero within = refl
+at_word (w ∷ ws) (suc n) within = at_word ws n (omega (arith, within))
+
+-- a fault that stops a turn is that of the text
+pub fault_told : (bytes : List ℕ) (ws : List (List ℕ)) (total : ℕ) (b : Before) (p : Place) (n : ℕ) (w : List ℕ) (f : OwnFault) (e : TextError) → ws ≡ words_of bytes → total ≡ length ws
+    → slice_get ws n ≡ Some w → told_from b p (drop n ws) ≡ first_fault ws → IsStop (turn_at b p w) f
+    → (e ≡ NoMemory) ⊎ (e ≡ error_at bytes (total - (n + 1)) (text_fault f)) → (e ≡ NoMemory) ⊎ (fault_of bytes ≡ Some e)
+fault_told bytes ws total b p n w f e same count is first stop (inl memory) = inl memory
+fault_told bytes ws total b p n w f e same count is first (inl wanting) (inr at) =
+    inl (at ∙ ap (λ (g : OwnFault). error_at bytes (total - (n + 1)) (text_fault g)) wanting)
+fault_told bytes ws total b p n w f e same count is first (inr turn) (inr at) =
+    let found : first_fault (words_of bytes) ≡ told (text_fault f) (drop (n + 1) ws) =
+    ap first_fault (sym same) ∙ sym first ∙ told_here b p ws n w (text_fault f) is turn in
+    let left : length (drop (n + 1) ws) ≡ total - (n + 1) = length-drop (n + 1) ws ∙ ap (λ (k : ℕ). k - (n + 1)) (sym count) in
+    inr (ap (answered bytes) found ∙ ap (λ (k : ℕ). Some (error_at bytes k (text_fault f))) left ∙ ap Some (sym at))

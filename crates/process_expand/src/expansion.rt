@@ -169,7 +169,6 @@ impl Written {
 }
 
 /// What is written in place of a text.
-#[tactic(auto, using(crate::proofs::Backwards::too_long))]
 pub fn expanded(alloc: Global, tokens: &[Token]) -> Result<Vec<Token>, Unwritten>
     ensures text { IfOk result (λ text. text.items ≡ expanded tokens.now) }
     ensures too_long { IfErr result (λ u. u ≡ Unwritten.TooLong → IsTooLong tokens.now) }

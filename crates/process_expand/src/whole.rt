@@ -8,7 +8,7 @@ ghost use Rattle.process_expand.specs.Reading.{fault_of, tokens_of};
 ghost use Rattle.process_expand.specs.Expand.{expansion, IsNoPlain, IsUnwritable};
 
 use crate::expansion::{Unwritten, expanded};
-use crate::naming::names_in;
+use crate::naming::{names_in, word_at};
 use crate::places::{error_at, error_at_end};
 use crate::reader::Reader;
 use crate::tokens::Token;
@@ -27,7 +27,7 @@ fn tokens_of(alloc: Global, bytes: &[u8], words: &[&[u8]]) -> Result<Vec<Token>,
     let mut reader = Reader::new(alloc);
     let mut tokens = Vec::new(alloc);
     for number in 0..words.len() {
-        match reader.read(alloc, words[number]) {
+        match reader.read(alloc, word_at(words, number)) {
             Ok(role) => tokens.push(Token { role, number })?,
             Err(fault) => return Err(error_at(bytes, words.len(), number, fault)),
         }

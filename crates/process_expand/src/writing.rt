@@ -18,7 +18,6 @@ struct Page {
 }
 
 // A line feed, and two spaces for each block.
-#[tactic(auto, using(crate::proofs::Steps::indent_more))]
 fn add_new_line(out: &mut Vec<u8>, depth: usize) -> Result<(), AllocError>
     ensures { OnOk result (out.new.items ≡ out.old.items ++ new_line depth) }
 {

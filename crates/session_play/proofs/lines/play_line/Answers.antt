@@ -1,6 +1,7 @@
 use Rattle.std.proofs.Common.{◌≡◌, ◌∙◌, List, [], ap, arith, subst, sym}
 use Rattle.engine_calls.proofs.Goes.{goes_none}
 use Rattle.machine_model.specs.Replies.{Handed}
+use Rattle.process_engine.proofs.StillQueued.{none_queued}
 use Rattle.process_engine.specs.Queues.{AreQueued}
 use Rattle.session_play.specs.AtHand.{AreAtHand}
 use Rattle.session_play.specs.Playing.{plan_for, plan_named}
@@ -50,7 +51,7 @@ returns-in-Flush-clause-at_hand g c =
     on_ok_both c.play_flush.result (queued ≡ []) (AreAtHand new (record { unfinished = c.args.hand.now.unfinished; queued = queued })) c.play_flush.ensures.queued
     (λ none. record {
       handed = all_stay old new.core goes.added c.args.hand.now.unfinished.items goes.kept c.requires.at_hand.handed;
-      queued = subst (AreQueued new) (sym none) (record { unfinished = tt; distinct = tt; apart = tt; ends = omega arith; few = omega arith; room = tt });
+      queued = subst (AreQueued new) (sym none) (none_queued new);
     })
 
 pub returns-in-Admit-clause-goes : goal.returns-in-Admit-clause-goes

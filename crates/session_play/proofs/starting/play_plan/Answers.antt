@@ -20,7 +20,7 @@ returns-clause-queued g c queued was =
     let old = c.args.engine.now in
     let new = c.start.new.engine in
     elim c.match-start.branch [
-      | in-Ok+in_ok-put_started-in-Ok w ↦ queued_at_start old new c.args.plan c.invariant_holds.ensures.run w.in-Ok.ensures.core (c.start.ensures.goes (c.args.plan ∷ []) (stands_among [] [] c.args.plan)).catalog c.start.ensures.stores queued was
+      | in-Ok+in_ok-put_started-in-Ok w ↦ queued_at_start old new c.args.plan c.invariant_holds.ensures.run w.in-Ok.ensures.core _ w.in-Ok.ensures.reply (c.start.ensures.goes (c.args.plan ∷ []) (stands_among [] [] c.args.plan)).catalog c.start.ensures.stores queued was
       | in-Err+in_ok-put_refusal-in-Err w ↦
           subst (λ e. AreQueued e queued) (sym (w.in-Err.ensures.refused.left (λ fault. no_fault w.in_ok-put_refusal-in-Err.ensures.told.0 (sym w.in_ok-put_refusal-in-Err.ensures.told.1 ∙ fault)))) was
     ]

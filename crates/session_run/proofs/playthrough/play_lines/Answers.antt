@@ -3,6 +3,7 @@ use Rattle.process_tree.specs.Order.{Each}
 use Rattle.engine_steps.specs.Beginning.{IsPlanFor}
 use Rattle.engine_calls.proofs.Goes.{goes_none, goes_then}
 use Rattle.session_play.specs.Answering.{IsAnswered, IsCut}
+use Rattle.process_engine.proofs.StillQueued.{none_queued}
 use Rattle.process_engine.specs.Queues.{AreQueued}
 use Rattle.session_play.specs.AtHand.{Hand}
 use Rattle.session_play.specs.Pieces.{AreHandedBy, session_of}
@@ -32,7 +33,7 @@ loop-rest-init g c =
       plans = c.requires.plans;
       at_hand = record {
         handed = subst (AreHandedBy core) (sym pieces) tt;
-        queued = subst (AreQueued c.args.engine.now) (sym queued) (record { unfinished = tt; distinct = tt; apart = tt; ends = omega arith; few = omega arith; room = tt });
+        queued = subst (AreQueued c.args.engine.now) (sym queued) (none_queued c.args.engine.now);
       };
       room = c.requires.room;
     }
