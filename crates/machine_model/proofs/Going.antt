@@ -25,8 +25,9 @@ use Rattle.machine_model.specs.ProcessState.{ProcessState, are_used_up, begun, c
 use Rattle.machine_model.specs.State.{block_of, is_blocked, is_exhausted, is_pending, pending_of, process_state, undo_next, victim_of}
 use Rattle.machine_model.specs.Advance.{Machine, advance, advance_all}
 use Rattle.machine_model.specs.Runs.{goes_on_from, is_victim, may_be_kept, now}
-use Rattle.machine_model.specs.Replies.{all_victims, victim_then, victims}
-use Rattle.machine_model.specs.CallLaws.{IsStuck, StuckIsExhausted}
+use Rattle.machine_model.specs.Calls.{answer_next, next_is}
+use Rattle.machine_model.specs.Replies.{Next, all_victims, stuck, victim_then, victims}
+use Rattle.machine_model.specs.CallLaws.{IsStuck, StuckIsExact}
 use Rattle.machine_model.specs.PieceLaws.{begun_where}
 use Rattle.machine_model.specs.Laws.{AllHaveBegun, IsSession, ProgressLaw, next_in_restart}
 use Rattle.machine_model.proofs.Allowances.{course_tries, left_at_first}
@@ -38,7 +39,8 @@ use Rattle.machine_model.proofs.RestartFree.{restart_is_free}
 use Rattle.machine_model.proofs.SessionCalls.{session-longer, victims_start}
 use Rattle.machine_model.proofs.Snoc.{advances, advance_all-append, goes_on-append, keeping}
 use Rattle.machine_model.proofs.StateSteps.{advance-state, same_is}
-use Rattle.machine_model.proofs.Stuck.{stuck_is_exact}
+use Rattle.machine_model.proofs.Stuck.{SaysStuck, stuck-if, stuck-only}
+use Rattle.machine_model.proofs.Victims.{victims_run_dry}
 
 -- a process that begins to complete isn't exhausted anew: its next piece was refused as often as before, or never
 begun_left : (c : Course) (s : ProcessState) → ((b : ℕ) (w : _) → are_used_up (tries_in c b w) 0 ≡ false) → has_used_up c s ≡ false → has_used_up c (begun s) ≡ false
@@ -139,16 +141,12 @@ module _ (table : ConflictRelation) (courses : List Course) (m : Moment) (none :
   free_goes i active' free (inl ex) = false≢true (sym (none i active') ∙ ex)
   free_goes i active' free (inr began) = not_blocked (is_exhausted courses m i) (block_of table courses m i) free began.1
 
-  -- nobody is stuck without being exhausted
-  pub nobody_stuck : (k : ℕ) → IsStuck table courses m k → ⊥
+  -- nobody is said to be stuck without being exhausted
+  pub nobody_stuck : (k : ℕ) → SaysStuck table courses m k → ⊥
   nobody_stuck k is =
       let turn = some_turn courses m is.some_active in
       let all : AllHaveBegun m = λ i active'. begun_unless_exhausted i active' (is.nobody_goes i active') in
       free_goes turn.0 turn.2 (turn_is_free all turn.0 turn.1) (is.nobody_goes turn.0 turn.2)
-
--- so it is in a session
-never_stuck : (table : ConflictRelation) (plans : List Plan) (s : Machine) → IsSession table plans s → NoneExhausted s.courses (now table s) → (k : ℕ) → IsStuck table s.courses (now table s) k → ⊥
-never_stuck table plans s session none k is = nobody_stuck table s.courses (now table s) none (restart_is_free table plans s session) k is
 
 -- where some number passes, the least that does is there
 least_passes : (p : ℕ → Bool) (xs : List ℕ) (i : ℕ) → (((k : ℕ) → is_in k xs ≡ true → p k ≡ false) → ⊥) → i ≡ unwrap_or (least (filter p xs)) 0 → least (filter p xs) ≡ Some i
@@ -164,26 +162,62 @@ least_passes p xs i some is = by_list (filter p xs) refl
         let first = least_some k ks in
         ap least found ∙ (first.1 ∙ ap Some (sym (is ∙ (ap (λ (ys : List ℕ). unwrap_or (least ys) 0) found ∙ ap (λ o. unwrap_or o 0) first.1))))
 
--- so whoever is stuck is the least exhausted process
+-- so whoever is said to be stuck is the least exhausted process
 pub stuck_exhausted : (table : ConflictRelation) (courses : List Course) (m : Moment) → (AllHaveBegun m → (i : ℕ) → next_in_restart courses m ≡ Some i → block_of table courses m i ≡ None)
-    → (i : ℕ) → IsStuck table courses m i → least (filter (is_exhausted courses m) (active m.events)) ≡ Some i
-stuck_exhausted table courses m turn_is_free i is =
-    least_passes (is_exhausted courses m) (active m.events) i
-    (λ none. nobody_stuck table courses m (λ k goes. none k (is_active-is_in m.events k ∙ goes)) turn_is_free i is) is.least
+    → (i : ℕ) → SaysStuck table courses m i → IsStuck table courses m i
+stuck_exhausted table courses m turn_is_free i says = record {
+  some_active = says.some_active;
+  nothing_runs = says.nothing_runs;
+  nobody_goes = says.nobody_goes;
+  is_least = least_passes (is_exhausted courses m) (active m.events) i
+      (λ none. nobody_stuck table courses m (λ k goes. none k (is_active-is_in m.events k ∙ goes)) turn_is_free i says) says.least;
+}
 
-pub stuck_is_exhausted : StuckIsExhausted
-stuck_is_exhausted table plans s session i is = stuck_exhausted table s.courses (now table s) (restart_is_free table plans s session) i is
+-- what a request answers, it says of the moment after its victims
+pub says_stuck : (table : ConflictRelation) (courses : List Course) (m : Moment) (served i : ℕ) → (answer_next table courses m served).reply ≡ next_is (stuck i)
+    → SaysStuck table courses (advance_all table courses m (all_victims table courses m)) i
+says_stuck table courses m served i is = stuck-only table courses (advance_all table courses m (all_victims table courses m)) (victims_run_dry table courses m).0 served i (inner is)
+  where
+    inner : {a b : Next} → next_is a ≡ next_is b → a ≡ b
+    inner {a} {b} is = cc
+
+-- A request leads to a session: its moment after the victims that it makes.
+module _ (table : ConflictRelation) (plans : List Plan) (s : Machine) (session : IsSession table plans s) where
+  abbrev requested : Machine
+  requested = keeping s (all_victims table s.courses (now table s))
+
+  abbrev at_request : Moment
+  at_request = advance_all table s.courses (now table s) (all_victims table s.courses (now table s))
+
+  requested_session : IsSession table plans requested
+  requested_session =
+      session-longer table plans s (all_victims table s.courses (now table s)) s.served session
+      (victims_start table s.courses (length (active (now table s).events)) (now table s))
+      (goes_on-append table s.courses (opening_moment s.opening) s.kept (all_victims table s.courses (now table s))
+      ∙ and_from (goes_on_from table s.courses (opening_moment s.opening) s.kept) _ session.run (victims-kept table s.courses (length (active (now table s).events)) (now table s)))
+
+  requested_now : now table requested ≡ at_request
+  requested_now = advance_all-append table s.courses (opening_moment s.opening) s.kept (all_victims table s.courses (now table s))
+
+  -- so the least exhausted process is the one that is named
+  is_stuck : (i : ℕ) → SaysStuck table s.courses at_request i → IsStuck table s.courses at_request i
+  is_stuck i says =
+      subst (λ o. IsStuck table s.courses o i) requested_now
+      (stuck_exhausted table s.courses (now table requested) (restart_is_free table plans requested requested_session) i
+      (subst (λ o. SaysStuck table s.courses o i) (sym requested_now) says))
+
+pub stuck_is_exact : StuckIsExact
+stuck_is_exact table plans s session i = (
+  λ is. is_stuck table plans s session i (says_stuck table s.courses (now table s) s.served i is),
+  λ is. ap next_is (stuck-if table s.courses (at_request table plans s session) s.served i is),
+)
 
 pub progress_law : ProgressLaw
 progress_law table plans s session none k answered' =
     let m = now table s in
-    let vs = all_victims table s.courses m in
-    let later = keeping s vs in
-    let run = goes_on-append table s.courses (opening_moment s.opening) s.kept vs ∙ and_from (goes_on_from table s.courses (opening_moment s.opening) s.kept) _ session.run (victims-kept table s.courses (length (active m.events)) m) in
-    let session' = session-longer table plans s vs s.served session (victims_start table s.courses (length (active m.events)) m) run in
-    let same : now table later ≡ advance_all table s.courses m vs = advance_all-append table s.courses (opening_moment s.opening) s.kept vs in
-    let left : NoneExhausted s.courses (advance_all table s.courses m vs) =
+    let m' = at_request table plans s session in
+    let left : NoneExhausted s.courses m' =
     subst (λ xs. NoneExhausted xs (advance_all table xs m (all_victims table xs m))) (sym session.courses)
     (victims_none table plans session.good (length (active m.events)) m (session-counts table plans s session) (subst (λ xs. NoneExhausted xs m) session.courses none)) in
-    never_stuck table plans later session' (subst (NoneExhausted s.courses) (sym same) left) k
-    (subst (λ o. IsStuck table s.courses o k) (sym same) ((stuck_is_exact table s.courses m s.served k).0 answered'))
+    nobody_stuck table s.courses m' left (subst (λ o. AllHaveBegun o → (i : ℕ) → next_in_restart s.courses o ≡ Some i → block_of table s.courses o i ≡ None) (requested_now table plans s session)
+    (restart_is_free table plans (requested table plans s session) (requested_session table plans s session))) k (says_stuck table s.courses m s.served k answered')

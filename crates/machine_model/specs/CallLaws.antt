@@ -13,8 +13,8 @@ use Rattle.machine_model.specs.Pieces.{runs, state_of}
 use Rattle.machine_model.specs.Moment.{Moment, has_begun}
 use Rattle.machine_model.specs.State.{is_blocked, is_exhausted, victim_of}
 use Rattle.machine_model.specs.Advance.{Machine, advance_all}
-use Rattle.machine_model.specs.Runs.{history, is_run, now}
-use Rattle.machine_model.specs.Replies.{stuck, victims, all_victims, least_exhausted}
+use Rattle.machine_model.specs.Runs.{is_run, now}
+use Rattle.machine_model.specs.Replies.{stuck, victims, all_victims}
 use Rattle.machine_model.specs.Calls.{IsNoStart, Call, answer, answer_next, answered, next_is}
 use Rattle.machine_model.specs.Groups.{Targets, Taken, flush_kept, queue_reply}
 use Rattle.machine_model.specs.Turns.{Board, Turn, AreTurns}
@@ -38,25 +38,19 @@ VictimsRunDry = (table : ConflictRelation) (courses : List Course) (m : Moment)
     × ((n : ℕ) → length (active m.events) ≤ n → victims n table courses m ≡ all_victims table courses m)
 
 -- One is stuck: some process is active, nothing runs, each active process is exhausted, or has begun to complete and is
--- blocked, and i is the least exhausted one.
+-- blocked, and the least exhausted one is i.
 pub record IsStuck (table : ConflictRelation) (courses : List Course) (m : Moment) (i : ℕ) : Type 0 where
   pub some_active : active m.events ≢ []
   pub nothing_runs : m.out ≡ []
   pub nobody_goes : (k : ℕ) → IsTrue (is_active m.events k)
       → IsTrue (is_exhausted courses m k) ⊎ (IsTrue (has_begun m k) × IsTrue (is_blocked table courses m k))
-  pub least : i ≡ least_exhausted courses m
+  pub is_least : least (filter (is_exhausted courses m) (active m.events)) ≡ Some i
 
--- A request for any piece answers so exactly where it is so after the victims that it makes.
+-- In a session a request for any piece answers so exactly where it is so after the victims that it makes.
 abbrev pub StuckIsExact : Type 0
-StuckIsExact = (table : ConflictRelation) (courses : List Course) (m : Moment) (served i : ℕ)
-    → ((answer_next table courses m served).reply ≡ next_is (stuck i)) ↔ IsStuck table courses
-    (advance_all table courses m (all_victims table courses m)) i
-
--- In a session in which one is stuck, some process is exhausted, and the one that is named is the least of those.
-abbrev pub StuckIsExhausted : Type 0
-StuckIsExhausted = (table : ConflictRelation) (plans : List Plan) (s : Machine) → IsSession table plans s → (i : ℕ)
-    → IsStuck table s.courses (now table s) i
-    → least (filter (is_exhausted s.courses (now table s)) (active (history table s))) ≡ Some i
+StuckIsExact = (table : ConflictRelation) (plans : List Plan) (s : Machine) → IsSession table plans s → (i : ℕ)
+    → ((answer_next table s.courses (now table s) s.served).reply ≡ next_is (stuck i)) ↔ IsStuck table s.courses
+    (advance_all table s.courses (now table s) (all_victims table s.courses (now table s))) i
 
 -- Turns make a run: where nothing was queued at first, what they keep makes a longer one.
 abbrev pub TurnsMakeRuns : Type 0

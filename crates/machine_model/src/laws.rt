@@ -16,7 +16,7 @@ ghost use Rattle.machine_model.specs.DropLaws.{HandsAreParted, HandsAreWithinTri
 ghost use Rattle.machine_model.specs.OpenLaws.{EndsDropHoldings, OpenHoldingsAreEnough};
 ghost use Rattle.machine_model.specs.CallLaws.{BeginningsOfRunsAreRuns, CallsKeepRuns, DroppedChangeNoAnswer, FlushesKeepWhatRuns};
 ghost use Rattle.machine_model.specs.CallLaws.{QueuedAreOutOrDropped};
-ghost use Rattle.machine_model.specs.CallLaws.{StuckIsExact, StuckIsExhausted, TurnsMakeRuns, VictimsRunDry};
+ghost use Rattle.machine_model.specs.CallLaws.{StuckIsExact, TurnsMakeRuns, VictimsRunDry};
 
 /// The computed cascade of an active process is the least set.
 pub fn cascade_is_least()
@@ -58,14 +58,9 @@ pub fn victims_run_dry()
     ensures { VictimsRunDry }
 {}
 
-/// A request for any piece answers that one is stuck exactly where nobody can go on or go back.
+/// A request for any piece answers that one is stuck exactly where nobody can go on or go back, and it is the least exhausted one.
 pub fn stuck_is_exact()
     ensures { StuckIsExact }
-{}
-
-/// Whoever is stuck is the least exhausted process.
-pub fn stuck_is_exhausted()
-    ensures { StuckIsExhausted }
 {}
 
 /// The turns of several threads make a run.

@@ -31,8 +31,7 @@ pub use laws::{
     refused_is_next_or_gone, reserved_is_free, restart_begins_all, restart_follows_completion,
     restart_is_free, running_goes_by_pieces, running_is_next, running_steps_are_free,
     runs_are_legal, runs_keep_own_order, standing_facts_hold, starts_hold_nothing,
-    states_go_by_transitions, steps_take_effect, stuck_is_exact, stuck_is_exhausted,
-    turns_make_runs, undone_is_free, undos_take_back_the_last, undos_take_effect, undos_wait_by_a5,
-    victims_run_dry,
+    states_go_by_transitions, steps_take_effect, stuck_is_exact, turns_make_runs, undone_is_free,
+    undos_take_back_the_last, undos_take_effect, undos_wait_by_a5, victims_run_dry,
 };
 pub use replies::{Aborted, PieceState, Recovery, Refusal, StartWhy, Todo};

@@ -1,5 +1,5 @@
 -- The laws at each moment of a session that opens at a sound moment.
-use Rattle.std.proofs.Common.{◌≡◌, inl, ℕ, ◌≤◌, Bool, true, false, List, length, map, Some, None, sym, refl, ap, ◌∙◌, arith}
+use Rattle.std.proofs.Common.{◌≡◌, ◌↔◌, inl, ℕ, ◌≤◌, Bool, true, false, List, length, map, Some, None, sym, refl, ap, ◌∙◌, arith}
 use Rattle.std.specs.List.{sum_by}
 use Rattle.process_tree.specs.declared.plan.Plan.{Plan}
 use Rattle.schedule_model.specs.Course.{Course, courses_of}
@@ -15,13 +15,14 @@ use Rattle.machine_model.specs.Pieces.{hands, is_try_of}
 use Rattle.machine_model.specs.State.{block_of, holdings, pending_of}
 use Rattle.machine_model.specs.Advance.{advance_all}
 use Rattle.machine_model.specs.Calls.{answer_next, next_is}
+use Rattle.machine_model.specs.CallLaws.{IsStuck}
 use Rattle.machine_model.specs.Laws.{AllHaveBegun, next_in_restart, pieces_for}
 use Rattle.machine_model.specs.Replies.{all_victims, stuck}
 use Rattle.machine_model.proofs.CallsKept.{victims-kept}
 use Rattle.machine_model.proofs.Clear.{undos_wait_by_a5}
 use Rattle.machine_model.proofs.Counting.{count, count-map}
 use Rattle.machine_model.proofs.FreeEnds.{end_unblocked}
-use Rattle.machine_model.proofs.Going.{NoneExhausted, nobody_stuck, stuck_exhausted, victims_none}
+use Rattle.machine_model.proofs.Going.{NoneExhausted, nobody_stuck, says_stuck, stuck_exhausted, victims_none}
 use Rattle.machine_model.proofs.HandsBound.{hands_within}
 use Rattle.machine_model.proofs.HandsSum.{process_bound}
 use Rattle.machine_model.proofs.HandSums.{by_process}
@@ -34,7 +35,7 @@ use Rattle.machine_model.proofs.Restart.{follows_completion}
 use Rattle.machine_model.proofs.RestartFree.{turn_free}
 use Rattle.machine_model.proofs.RunInduction.{goes_on-keeps}
 use Rattle.machine_model.proofs.SessionCalls.{starts-still, victims_start}
-use Rattle.machine_model.proofs.Stuck.{stuck_is_exact}
+use Rattle.machine_model.proofs.Stuck.{stuck-if}
 use Rattle.machine_model.proofs.Sums.{sum-most}
 use Rattle.resume_model.specs.MomentLaws.{MomentLawsHold}
 use Rattle.resume_model.specs.Resumed.{now_of}
@@ -69,15 +70,27 @@ module _ (table : ConflictRelation) (symmetric : IsSymmetric table) (plans : Lis
         let each = sum-most (λ i. count (is_of i) (hands m.kept)) (pieces_for cs) (starts m.events) (λ i among. its_hands i) in
         omega arith
 
+  -- where all have begun after the victims of a request, whoever comes next is free
+  turn_later : (m : Moment) → Stands table symmetric plans good m → length plans ≡ length (starts m.events) → AllHaveBegun (advance_all table cs m (all_victims table cs m)) → (i : ℕ)
+      → next_in_restart cs (advance_all table cs m (all_victims table cs m)) ≡ Some i → block_of table cs (advance_all table cs m (all_victims table cs m)) i ≡ None
+  turn_later m facts one_each =
+      let vs = all_victims table cs m in
+      let facts' = goes_on-keeps table cs (Stands table symmetric plans good) (advance-stands table symmetric plans good) m vs (victims-kept table cs (length (active m.events)) m) facts in
+      let same = starts-still table cs m vs (victims_start table cs (length (active m.events)) m) in
+      turn (advance_all table cs m vs) facts' (one_each ∙ sym (ap length same))
+
   -- a request for any piece is answered that one is stuck only where one is exhausted
   goes : (m : Moment) → Stands table symmetric plans good m → length plans ≡ length (starts m.events) → NoneExhausted cs m → (served k : ℕ) → (answer_next table cs m served).reply ≡ next_is (stuck k) → ⊥
   goes m facts one_each none served k answered =
-      let vs = all_victims table cs m in
-      let later = advance_all table cs m vs in
-      let facts' = goes_on-keeps table cs (Stands table symmetric plans good) (advance-stands table symmetric plans good) m vs (victims-kept table cs (length (active m.events)) m) facts in
-      let same = starts-still table cs m vs (victims_start table cs (length (active m.events)) m) in
-      nobody_stuck table cs later (victims_none table plans good (length (active m.events)) m facts.hands.counts none)
-      (turn later facts' (one_each ∙ sym (ap length same))) k ((stuck_is_exact table cs m served k).0 answered)
+      nobody_stuck table cs (advance_all table cs m (all_victims table cs m)) (victims_none table plans good (length (active m.events)) m facts.hands.counts none)
+      (turn_later m facts one_each) k (says_stuck table cs m served k answered)
+
+  exact : (m : Moment) → Stands table symmetric plans good m → length plans ≡ length (starts m.events) → (served i : ℕ)
+      → ((answer_next table cs m served).reply ≡ next_is (stuck i)) ↔ IsStuck table cs (advance_all table cs m (all_victims table cs m)) i
+  exact m facts one_each served i = (
+    λ is. stuck_exhausted table cs (advance_all table cs m (all_victims table cs m)) (turn_later m facts one_each) i (says_stuck table cs m served i is),
+    λ is. ap next_is (stuck-if table cs (advance_all table cs m (all_victims table cs m)) served i is),
+  )
 
 pub moment_laws_hold : MomentLawsHold
 moment_laws_hold table plans s session =
@@ -99,7 +112,7 @@ moment_laws_hold table plans s session =
       last_pending_is_free = last_free table plans m facts.within.own.legal (acts-of_plans table c m.events facts.legal.legal) (facts.closed.closed (inl refl));
       follows_completion = follows_completion c m (acts-of_plans table c m.events facts.legal.legal);
       turn_is_free = turn table symmetric plans good m facts session.one_each;
-      stuck_is_exhausted = stuck_exhausted table c m (turn table symmetric plans good m facts session.one_each);
+      stuck_is_exact = exact table symmetric plans good m facts session.one_each;
       goes_on = goes table symmetric plans good m facts session.one_each;
       few_hands = all_hands table symmetric plans good m facts;
     }

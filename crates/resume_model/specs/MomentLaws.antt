@@ -1,10 +1,9 @@
 -- What holds at each moment of a session that opens at a sound moment, as statements.
-use Rattle.std.specs.Prelude.{◌≡◌, ◌≢◌, ◌⊎◌, ◌≤◌, ℕ, true, false, List, [], ◌∷◌, ◌++◌, filter, length, nat_eq, Some, None, IsTrue}
+use Rattle.std.specs.Prelude.{◌≡◌, ◌≢◌, ◌⊎◌, ◌↔◌, ◌≤◌, ℕ, true, false, List, [], ◌∷◌, ◌++◌, filter, length, nat_eq, Some, None, IsTrue}
 use Rattle.std.specs.List.{Contains, sum_by}
 use Rattle.process_tree.specs.declared.entry.Entry.{Entry}
 use Rattle.process_tree.specs.declared.plan.Plan.{Plan}
 use Rattle.process_tree.specs.Recovery.{reserved}
-use Rattle.process_tree.specs.Shape.{least}
 use Rattle.schedule_model.specs.declared.event.Event.{Event}
 use Rattle.schedule_model.specs.Course.{Course, course_of, courses_of}
 use Rattle.schedule_model.specs.Conflict.{ConflictRelation, IsSymmetric, conflict}
@@ -22,12 +21,12 @@ use Rattle.machine_model.specs.declared.kept.Work.TheVariants.{Forward, Undo, En
 use Rattle.machine_model.specs.Moment.{Moment}
 use Rattle.machine_model.specs.Pieces.{hands}
 use Rattle.machine_model.specs.State.{block_of, holdings, is_exhausted, is_pending, next_of, pending_of, undo_next}
-use Rattle.machine_model.specs.Advance.{event_by}
+use Rattle.machine_model.specs.Advance.{advance_all, event_by}
 use Rattle.machine_model.specs.Calls.{IsNoStart, Call, answer_next, next_is, start}
 use Rattle.machine_model.specs.CallLaws.{IsStuck}
 use Rattle.machine_model.specs.Laws.{AllHaveBegun, next_in_restart, pieces_for}
 use Rattle.machine_model.specs.Groups.{flush_kept}
-use Rattle.machine_model.specs.Replies.{stuck}
+use Rattle.machine_model.specs.Replies.{all_victims, stuck}
 use Rattle.resume_model.specs.Openings.{on_history, restarting}
 use Rattle.resume_model.specs.Resumed.{IsResumed, Resumed, after_answer, answer_of, now_of}
 use Rattle.resume_model.specs.Sound.{is_sound}
@@ -60,8 +59,10 @@ pub record LawsAt (table : ConflictRelation) (courses : List Course) (m : Moment
       → (rest : List Event)
       × (completion courses m.events ≡ event_by courses i (next_of courses m i).step (next_of courses m i).work ∷ rest)
   pub turn_is_free : AllHaveBegun m → (i : ℕ) → next_in_restart courses m ≡ Some i → block_of table courses m i ≡ None
-  -- whoever is stuck is the least exhausted process, and where none is exhausted no request is answered that one is stuck
-  pub stuck_is_exhausted : (i : ℕ) → IsStuck table courses m i → least (filter (is_exhausted courses m) (active m.events)) ≡ Some i
+  -- a request for any piece answers that one is stuck exactly where it is so after the victims that it makes, and never where no
+  -- process is exhausted
+  pub stuck_is_exact : (served i : ℕ) → ((answer_next table courses m served).reply ≡ next_is (stuck i))
+      ↔ IsStuck table courses (advance_all table courses m (all_victims table courses m)) i
   pub goes_on : ((i : ℕ) → IsTrue (is_active m.events i) → is_exhausted courses m i ≡ false)
       → (served k : ℕ) → (answer_next table courses m served).reply ≢ next_is (stuck k)
   -- no more pieces were handed out since the opening than the processes of the history can take

@@ -10,16 +10,15 @@ use Rattle.machine_model.specs.CallLaws.{IsStuck}
 use Rattle.machine_model.specs.Moment.{Moment, Piece}
 use Rattle.machine_model.specs.Replies.{exhausted}
 use Rattle.machine_model.specs.State.{is_exhausted}
-use Rattle.machine_model.proofs.Going.{stuck_is_exhausted}
 use Rattle.process_core.specs.Answers.{after_call, answer_in}
-use Rattle.process_core.specs.Cores.{CoreState, IsCore, courses_in, machine_of, moment_of, relation}
+use Rattle.process_core.specs.Cores.{CoreState, courses_in, moment_of, relation}
 use Rattle.process_core.specs.Handing.{admit_reply_of}
 use Rattle.process_core.specs.declared.replies.Admit.{Admit as Reply'}
 use Rattle.process_core.specs.declared.replies.Admit.TheVariants.{Piece as IsPiece, Blocked as IsBlocked, Running as IsRunning, Unknown as IsUnknown, Ended as IsEnded, Exhausted as IsExhausted}
 use Rattle.process_core.proofs.SeatReplies.{reply_parts, started_if}
 use Rattle.scenario_run.specs.Reports.{step_due}
 
-module _ (core : CoreState) (is : IsCore core) (i : ℕ) (stays : IsStuck (relation core) (courses_in core) (moment_of core) i) where
+module _ (core : CoreState) (i : ℕ) (stays : IsStuck (relation core) (courses_in core) (moment_of core) i) where
   abbrev m : Moment
   m = moment_of core
 
@@ -29,7 +28,7 @@ module _ (core : CoreState) (is : IsCore core) (i : ℕ) (stays : IsStuck (relat
   -- it is active, and it has no try left
   pub spent : (is_active m.events i ≡ true) × (is_exhausted cs m i ≡ true)
   spent =
-      let listed = (least_is (filter (is_exhausted cs m) (active m.events)) i (stuck_is_exhausted (relation core) core.plans (machine_of core) is.session i stays)).0 in
+      let listed = (least_is (filter (is_exhausted cs m) (active m.events)) i stays.is_least).0 in
       let both = and_parts (is_in i (active m.events)) (is_exhausted cs m i) (sym (is_in-filter (is_exhausted cs m) i (active m.events)) ∙ listed) in
       (sym (is_active-is_in m.events i) ∙ both.0, both.1)
 

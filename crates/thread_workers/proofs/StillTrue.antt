@@ -1,29 +1,26 @@
 -- What a worker was told when it stopped is so of every later engine.
-use Rattle.std.proofs.Common.{◌≡◌, ◌⊎◌, inl, inr, ◌∙◌, ℕ, true, false, eqb, ltb, leb, List, [], ◌∷◌, ◌++◌, length, filter, find, IsTrue, refl, ap, sym, subst, ⊎_elim}
+use Rattle.std.proofs.Common.{◌≡◌, ◌⊎◌, inl, inr, ◌∙◌, ℕ, true, false, eqb, ltb, leb, List, [], ◌∷◌, ◌++◌, length, filter, find, refl, ap, sym, subst, ⊎_elim}
 use Rattle.std.specs.Bool.{⊤}
-use Rattle.std.specs.List.{Contains}
 use Rattle.std.proofs.lemmas.Bool.{false≢true}
-use Rattle.process_tree.specs.declared.plan.Plan.{Plan}
 use Rattle.process_tree.specs.declared.play.Outcome.TheVariants as outcome
 use Rattle.process_tree.specs.Order.{Each}
 use Rattle.schedule_model.specs.declared.event.Event.{Event}
 use Rattle.schedule_model.specs.Conflict.{ConflictRelation}
 use Rattle.schedule_model.specs.Course.{Course}
 use Rattle.schedule_model.specs.Histories.{active, is_active, is_in}
-use Rattle.schedule_model.specs.Laws.{IsGoodPlan}
-use Rattle.schedule_model.specs.Legal.{is_legal}
 use Rattle.schedule_model.proofs.Active.{is_active-is_in}
 use Rattle.machine_model.specs.Advance.{advance_all}
 use Rattle.machine_model.specs.CallLaws.{IsStuck}
 use Rattle.machine_model.specs.Calls.{Call, IsNoStart, finish, next, next_is}
 use Rattle.machine_model.specs.Groups.{Targets}
+use Rattle.machine_model.specs.Laws.{IsSession}
 use Rattle.machine_model.specs.Moment.{Moment, Piece}
 use Rattle.machine_model.specs.Pieces.{runs}
 use Rattle.machine_model.specs.Replies.{all_ended, all_victims, next_reply, none_free_by_active, piece_of_free, stuck, victims}
-use Rattle.machine_model.specs.Runs.{is_run}
 use Rattle.machine_model.specs.State.{is_free}
 use Rattle.machine_model.proofs.CallsKept.{call-makes_run}
 use Rattle.machine_model.proofs.OwnOrder.{run-own_order}
+use Rattle.machine_model.proofs.SessionCalls.{call-starts, session-longer}
 use Rattle.process_core.specs.Answers.{after_call, answer_in}
 use Rattle.process_core.specs.Cores.{CoreState, IsCore, courses_in, history_of, machine_of, moment_of, relation}
 use Rattle.engine_steps.specs.declared.engines.Phase.TheVariants.{Closed}
@@ -45,17 +42,18 @@ use Rattle.shared_engine.specs.Progress.{AreTold, IsTold, Progress, after, after
 use Rattle.thread_workers.specs.Workers.{Has, Stops}
 use Rattle.thread_workers.proofs.Reported.{flush_closed, moves, none_moves, none_running, reported, reported_closed}
 
--- The machine of a core: its plans are good, it opened on a legal history, and it is a run.
+-- The machine of a core is a session.
 pub record IsRunning (c : CoreState) : Type 0 where
-  pub good : (p : Plan) → Contains c.plans p → IsGoodPlan p
-  pub legal : IsTrue (is_legal (relation c) (courses_in c) c.opening)
-  pub run : IsTrue (is_run (relation c) (machine_of c))
+  pub session : IsSession (relation c) c.plans (machine_of c)
 
 pub running_core : (c : CoreState) → IsCore c → IsRunning c
-running_core c core = record { good = core.session.good; legal = core.session.legal; run = core.session.run }
+running_core c core = record { session = core.session }
 
 running_call : (c : CoreState) (call : Call) → IsNoStart call → IsRunning c → IsRunning (after_call c call)
-running_call c call no_start is = record { good = is.good; legal = is.legal; run = call-makes_run (relation c) (machine_of c) call no_start is.run }
+running_call c call no_start is = record {
+  session = session-longer (relation c) c.plans (machine_of c) (answer_in c call).kept (answer_in c call).served is.session
+      (call-starts (relation c) (courses_in c) (moment_of c) c.served call no_start) (call-makes_run (relation c) (machine_of c) call no_start is.session.run);
+}
 
 -- whatever a request is answered, it is a call, or the engine is closed and stays as it is
 next_core : (c : CoreState) (said : NextSaid) → (after_next c said ≡ after_call c next) ⊎ (after_next c said ≡ c)
@@ -100,7 +98,7 @@ none_out es (p ∷ ps) each none = absurd (false≢true (ap (is_in p.process) (s
 
 -- where no process is active, no piece is out
 idle_ended : (c : CoreState) → IsRunning c → active (history_of c) ≡ [] → (moment_of c).out ≡ []
-idle_ended c is none = none_out (history_of c) (moment_of c).out (run-own_order (relation c) c.plans is.good (machine_of c) refl is.legal is.run).active none
+idle_ended c is none = none_out (history_of c) (moment_of c).out (run-own_order (relation c) c.plans is.session.good (machine_of c) refl is.session.legal is.session.run).active none
 
 module _ (table : ConflictRelation) (courses : List Course) (m : Moment) (served : ℕ) (none : active m.events ≡ []) where
   no_victims : all_victims table courses m ≡ []
@@ -121,8 +119,8 @@ abbrev IsStuckAt : ℕ → CoreState → Type 0
 IsStuckAt i c = ((answer_in c next).reply ≡ next_is (stuck i)) × IsStuck (relation c) (courses_in c) (moment_of c) i
 
 -- and who is stuck stays so
-stuck_after : (c : CoreState) (i : ℕ) → next_is (stuck i) ≡ (answer_in c next).reply → IsStuckAt i (after_call c next)
-stuck_after c i replied = (stuck_again c (after_call c next) refl i replied, stuck_stays c (after_call c next) refl i replied)
+stuck_after : (c : CoreState) → IsRunning c → (i : ℕ) → next_is (stuck i) ≡ (answer_in c next).reply → IsStuckAt i (after_call c next)
+stuck_after c is i replied = (stuck_again c (after_call c next) refl i replied, stuck_stays c (after_call c next) refl is.session i replied)
 
 -- what a worker that stops so was told, of a core and of what goes on in its engine
 abbrev pub IsOver : RunOutcome → Progress → Type 0
@@ -167,7 +165,7 @@ module _ (targets : Targets) where
   over_after AllEnded p (Queue n a s) is over told =
       subst (λ c. active (history_of c) ≡ []) (sym (still p.core n s (none_moves targets p.core p.group p.due (idle_ended p.core is over) p.phase n a s told))) over
   over_after AllEnded p (Flush s) is over told = subst (λ c. active (history_of c) ≡ []) (sym (flush_still p s (idle_ended p.core is over))) over
-  over_after (Stuck i) p (Next said) is over told = by_request (IsStuckAt i) p.core said over (stuck_after p.core i (sym over.0))
+  over_after (Stuck i) p (Next said) is over told = by_request (IsStuckAt i) p.core said over (stuck_after p.core is i (sym over.0))
   over_after (Stuck i) p (Queue n a s) is over told =
       subst (IsStuckAt i) (sym (still p.core n s (none_moves targets p.core p.group p.due over.1.nothing_runs p.phase n a s told))) over
   over_after (Stuck i) p (Flush s) is over told = subst (IsStuckAt i) (sym (flush_still p s over.1.nothing_runs)) over
@@ -182,21 +180,21 @@ module _ (targets : Targets) where
   over_all o p x (e ∷ es) is over are = over_all o (after p e) x es (running_after p e is) (over_after o p e is over are.0) are.1
 
   -- and after the entry by which the worker stopped.
-  stops_over : (o : RunOutcome) (p : Progress) (e : TurnEntry) → Stops o e → IsTold targets p e → IsOver o (after p e)
-  stops_over AllEnded p e is told =
+  stops_over : (o : RunOutcome) (p : Progress) (e : TurnEntry) → IsRunning p.core → Stops o e → IsTold targets p e → IsOver o (after p e)
+  stops_over AllEnded p e runs is told =
       subst (λ (f : TurnEntry). IsOver AllEnded (after p f)) (sym is)
       (all_have_ended p.core (after_call p.core next) refl (reported targets p.core p.group p.due p.phase asked.AllEnded (subst (IsTold targets p) is told)))
-  stops_over (Stuck i) p e is told =
-      subst (λ (f : TurnEntry). IsOver (Stuck i) (after p f)) (sym is) (stuck_after p.core i (reported targets p.core p.group p.due p.phase (asked.Stuck i) (subst (IsTold targets p) is told)))
-  stops_over DiskFault p (Next said) is told = reported targets p.core p.group p.due p.phase (asked.Closed is.0) (subst (λ (s : NextSaid). IsTold targets p (Next s)) is.1 told)
-  stops_over DiskFault p (Queue n a s) is told = reported_closed targets p.core p.group p.due p.phase n a is.0 (subst (λ (r : QueueSaid). IsTold targets p (Queue n a r)) is.1 told)
-  stops_over DiskFault p (Flush s) (inl is) told = subst (λ (r : FlushSaid). (after_flush p r).phase ≡ Closed) (sym is) refl
-  stops_over DiskFault p (Flush s) (inr is) told =
+  stops_over (Stuck i) p e runs is told =
+      subst (λ (f : TurnEntry). IsOver (Stuck i) (after p f)) (sym is) (stuck_after p.core runs i (reported targets p.core p.group p.due p.phase (asked.Stuck i) (subst (IsTold targets p) is told)))
+  stops_over DiskFault p (Next said) runs is told = reported targets p.core p.group p.due p.phase (asked.Closed is.0) (subst (λ (s : NextSaid). IsTold targets p (Next s)) is.1 told)
+  stops_over DiskFault p (Queue n a s) runs is told = reported_closed targets p.core p.group p.due p.phase n a is.0 (subst (λ (r : QueueSaid). IsTold targets p (Queue n a r)) is.1 told)
+  stops_over DiskFault p (Flush s) runs (inl is) told = subst (λ (r : FlushSaid). (after_flush p r).phase ≡ Closed) (sym is) refl
+  stops_over DiskFault p (Flush s) runs (inr is) told =
       subst (λ (r : FlushSaid). (after_flush p r).phase ≡ Closed) (sym is.1) (flush_closed targets p.core p.group p.due p.phase is.0 (subst (λ (r : FlushSaid). IsTold targets p (Flush r)) is.1 told))
-  stops_over NoMemory p e is told = tt
+  stops_over NoMemory p e runs is told = tt
 
   stopped_in : (o : RunOutcome) (p x : Progress) (e : TurnEntry) (before rest : List TurnEntry) → Stops o e → IsRunning p.core → AreTold targets p (before ++ e ∷ rest) x → IsOver o x
-  stopped_in o p x e [] rest stops is are = over_all o (after p e) x rest (running_after p e is) (stops_over o p e stops are.0) are.1
+  stopped_in o p x e [] rest stops is are = over_all o (after p e) x rest (running_after p e is) (stops_over o p e is stops are.0) are.1
   stopped_in o p x e (f ∷ fs) rest stops is are = stopped_in o (after p f) x e fs rest stops (running_after p f is) are.1
 
   pub stays_over : (o : RunOutcome) (p x : Progress) (es : List TurnEntry) (e : TurnEntry) → Has e es → Stops o e → IsRunning p.core → AreTold targets p es x → IsOver o x

@@ -8,15 +8,16 @@ use Rattle.machine_model.specs.declared.kept.Kept.{Kept}
 use Rattle.machine_model.specs.declared.kept.Kept.TheVariants.{Victim}
 use Rattle.machine_model.specs.Advance.{advance, advance_all}
 use Rattle.machine_model.specs.CallLaws.{IsStuck}
+use Rattle.machine_model.specs.Laws.{IsSession}
 use Rattle.machine_model.specs.Calls.{Reply, next, next_is, next_kept, next_served}
 use Rattle.machine_model.specs.Moment.{Moment}
 use Rattle.machine_model.specs.Replies.{BlockedProcess, Handed, Next, all_ended, all_victims, chosen, next_reply, none_free_by_active, none_free_by_running, piece_of_free, rotation, stuck, victim_then, victims, wait}
 use Rattle.machine_model.specs.State.{is_free, victim_of}
 use Rattle.machine_model.proofs.Snoc.{advance_all-append}
-use Rattle.machine_model.proofs.Stuck.{stuck_is_exact}
+use Rattle.machine_model.proofs.Going.{stuck_is_exact}
 use Rattle.machine_model.proofs.Victims.{victims_run_dry}
 use Rattle.process_core.specs.Answers.{after_call, answer_in}
-use Rattle.process_core.specs.Cores.{CoreState, courses_in, history_of, moment_of, relation}
+use Rattle.process_core.specs.Cores.{CoreState, courses_in, history_of, machine_of, moment_of, relation}
 use Rattle.worker_gate.specs.Running.{NothingRuns}
 use Rattle.worker_gate.proofs.IdleMoments.{hand_out, moment_with, victims_idle}
 
@@ -118,8 +119,9 @@ module _ (old new : CoreState) (is : new ≡ after_call old next) where
       ∙ (ap (λ vs. next_is (next_reply table courses (advance_all table courses here vs) old.served)) dry ∙ ap next_is (told (stuck i) replied)))))
 
   -- which the machine is at this moment, since nobody can go.
-  pub stuck_stays : (i : ℕ) → next_is (stuck i) ≡ (answer_in old next).reply → IsStuck (relation new) (courses_in new) (moment_of new) i
-  stuck_stays i replied =
+  pub stuck_stays : IsSession (relation old) old.plans (machine_of old) → (i : ℕ) → next_is (stuck i) ≡ (answer_in old next).reply
+      → IsStuck (relation new) (courses_in new) (moment_of new) i
+  stuck_stays session i replied =
       subst (λ t. IsStuck t (courses_in new) (moment_of new) i) (sym (ap relation is))
       (subst (λ cs. IsStuck (relation old) cs (moment_of new) i) (sym (ap courses_in is))
-      (subst (λ m. IsStuck (relation old) (courses_in old) m i) (sym (moment_next (stuck i) replied)) ((stuck_is_exact (relation old) (courses_in old) (moment_of old) old.served i).0 (sym replied))))
+      (subst (λ m. IsStuck (relation old) (courses_in old) m i) (sym (moment_next (stuck i) replied)) ((stuck_is_exact (relation old) old.plans (machine_of old) session i).0 (sym replied))))

@@ -51,6 +51,7 @@ fn turn<R: Rack + Drop, B: Resource, G: Gate>(
     ensures idle { result ≡ None → NothingRuns engine.new.core }
     ensures more { result ≡ None → length engine.old.core.kept < length engine.new.core.kept }
 {
+    engine.invariant_holds();
     match next(engine) {
         Next::Piece(piece) => {
             engine.invariant_holds();

@@ -1,4 +1,4 @@
-use Rattle.machine_model.proofs.Stuck.{stuck_is_exact}
+use Rattle.machine_model.proofs.Going.{stuck_is_exact}
 use Rattle.machine_model.proofs.laws.stuck_is_exact.Goals as goal
 
 pub returns : goal.returns

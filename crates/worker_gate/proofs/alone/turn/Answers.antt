@@ -19,7 +19,7 @@ returns-in-Piece-clause-ran g c =
     let told = c.in-Piece.ensures in
     let done = c.work.ensures in
     ran_turn g.R.Rack g.G.Gate.answers (counts_of g.G.Gate c.args.gate.now) (counts_of g.G.Gate c.work.new.gate) c.args.engine.now c.next.new.engine c.work.new.engine c.in-Piece.piece
-    done.ends.outcome c.work.result told.ready.settled c.invariant_holds.ensures.run (g.met.R.Rack.honest c.work.new.engine.files.rack) told.engine told.reply told.goes done.goes done.ends.finishes done.gate
+    done.ends.outcome c.work.result told.ready.settled c.invariant_holds-in-Piece.ensures.run (g.met.R.Rack.honest c.work.new.engine.files.rack) told.engine told.reply told.goes done.goes done.ends.finishes done.gate
     (λ end. ap g.G.Gate.asked (done.unasked end)) done.asked
 
 pub returns-in-Piece-clause-ready : goal.returns-in-Piece-clause-ready
@@ -49,5 +49,5 @@ pub returns-in-Stuck-clause-outcome : goal.returns-in-Stuck-clause-outcome
 returns-in-Stuck-clause-outcome g c =
     let core = ap (λ (e : EngineState g.row.R.Denot g.row.B.Denot). e.core) c.in-Stuck.ensures.engine in (
       stuck_again c.args.engine.now.core c.next.new.engine.core core c.in-Stuck.process c.in-Stuck.ensures.reply,
-      stuck_stays c.args.engine.now.core c.next.new.engine.core core c.in-Stuck.process c.in-Stuck.ensures.reply,
+      stuck_stays c.args.engine.now.core c.next.new.engine.core core c.invariant_holds.ensures.run.session c.in-Stuck.process c.in-Stuck.ensures.reply,
     )

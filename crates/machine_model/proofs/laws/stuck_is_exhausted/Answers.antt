@@ -1,5 +1,0 @@
-use Rattle.machine_model.proofs.Going.{stuck_is_exhausted}
-use Rattle.machine_model.proofs.laws.stuck_is_exhausted.Goals as goal
-
-pub returns : goal.returns
-returns c = stuck_is_exhausted
