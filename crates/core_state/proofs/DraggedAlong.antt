@@ -13,8 +13,8 @@ use Rattle.schedule_model.specs.Course.{Course, course_of, shape}
 use Rattle.schedule_model.specs.Histories.{active, ends, is_active, is_in, net, net_of, net_steps, of_process, starts, steps_of}
 use Rattle.schedule_model.specs.Holdings.{Hold, active_net}
 use Rattle.schedule_model.proofs.Active.{is_active-is_in, is_in-filter}
-use Rattle.machine_model.specs.declared.began.Cause.{Cause}
-use Rattle.machine_model.specs.declared.began.Cause.TheVariants.{Cascade}
+use Rattle.schedule_model.specs.declared.marks.Cause.{Cause}
+use Rattle.schedule_model.specs.declared.marks.Cause.TheVariants.{Cascade}
 use Rattle.machine_model.specs.declared.kept.Kept.{Kept}
 use Rattle.machine_model.specs.CauseLaws.{IsDragged}
 use Rattle.machine_model.specs.Moment.{Beginning, Moment, beginning_of, has_begun}

@@ -188,7 +188,7 @@ module _ (table : ConflictRelation) (plans : List Plan) (good : AreGood plans) (
 
 since_stand : (table : ConflictRelation) (plans : List Plan) (s : Machine) (session : IsSession table plans s) → SinceStand table plans session.good s.opening (now table s)
 since_stand table plans s session =
-    let own = run-own_order table plans session.good (record { opening = s.opening; courses = s.courses; kept = []; served = 0 }) session.courses session.legal refl in
+    let own = run-own_order table plans session.good (record { opening = s.opening; courses = s.courses; kept = []; served = 0 }) session.courses session.legal session.marks refl in
     subst (λ xs. SinceStand table plans session.good s.opening (advance_all table xs (opening_moment s.opening) s.kept)) (sym session.courses)
     (goes_on-keeps table (courses_of plans) (SinceStand table plans session.good s.opening) (stand_after table plans session.good s.opening own.legal) (opening_moment s.opening) s.kept
     (ap (λ xs. goes_on_from table xs (opening_moment s.opening) s.kept) (sym session.courses) ∙ session.run)

@@ -7,7 +7,7 @@ use Rattle.process_tree.specs.Shape.{fixed_len}
 use Rattle.schedule_model.specs.Course.{Course, shape}
 use Rattle.schedule_model.specs.Histories.{is_active, net_steps}
 use Rattle.schedule_model.proofs.Active.{is_active-is_in}
-use Rattle.machine_model.specs.declared.began.Cause.TheVariants.{Refused}
+use Rattle.schedule_model.specs.declared.marks.Cause.TheVariants.{Refused}
 use Rattle.machine_model.specs.declared.kept.Kept.{Kept}
 use Rattle.machine_model.specs.declared.kept.Kept.TheVariants.{Refuse}
 use Rattle.machine_model.specs.declared.kept.Work.{Work}

@@ -91,7 +91,7 @@ module _ (c : CoreState) (core : IsCore c) (p : Plan) where
   its_course = let all = as_many in let e : i - 1 ≡ length cs = omega arith in ap (λ k. slice_index_or ds k no_course) e ∙ at_seam cs (course_of p) no_course
 
   pub own : InOwnOrder (relation c) c.plans core.session.good (moment_of c)
-  own = run-own_order (relation c) c.plans core.session.good (machine_of c) refl core.session.legal core.session.run
+  own = run-own_order (relation c) c.plans core.session.good (machine_of c) refl core.session.legal core.session.marks core.session.run
 
   pub not_started : is_in (length (starts (moment_of c).events) + 1) (starts (moment_of c).events) ≡ true → ⊥
   not_started is = let bounds = legal-numbered no_conflict cs m.events own.legal i is in let high = bounds.1 in omega arith

@@ -7,9 +7,9 @@ use Rattle.schedule_model.specs.Conflict.{ConflictRelation}
 use Rattle.schedule_model.specs.Histories.{active, is_active}
 use Rattle.process_tree.specs.declared.plan.Plan.{Plan}
 use Rattle.machine_model.specs.declared.blocked.Blocked.{Blocked}
-use Rattle.machine_model.specs.declared.began.Cause.{Cause}
-use Rattle.machine_model.specs.declared.began.Cause.TheVariants.{Refused, Abort as Aborted, Cascade, Victim as WasVictim}
-use Rattle.machine_model.specs.declared.began.Cause.TheVariants.{Restart as Restarted}
+use Rattle.schedule_model.specs.declared.marks.Cause.{Cause}
+use Rattle.schedule_model.specs.declared.marks.Cause.TheVariants.{Refused, Abort as Aborted, Cascade, Victim as WasVictim}
+use Rattle.schedule_model.specs.declared.marks.Cause.TheVariants.{Restart as Restarted}
 use Rattle.machine_model.specs.declared.kept.Kept.{Kept}
 use Rattle.machine_model.specs.declared.kept.Kept.TheVariants.{Start, Hand, Effect, Refuse, Abort, Victim, Restart}
 use Rattle.machine_model.specs.Moment.{Beginning, Lost, Moment, Piece}

@@ -14,7 +14,7 @@ use Rattle.schedule_model.specs.Course.{Course}
 use Rattle.schedule_model.specs.Conflict.{ConflictRelation}
 use Rattle.machine_model.specs.declared.kept.Kept.{Kept}
 use Rattle.machine_model.specs.declared.kept.Kept.TheVariants.{Start, Hand, Effect, Refuse, Abort, Victim, Restart}
-use Rattle.machine_model.specs.declared.began.Cause.{Cause}
+use Rattle.schedule_model.specs.declared.marks.Cause.{Cause}
 use Rattle.machine_model.specs.declared.replies.PieceState.{PieceState}
 use Rattle.machine_model.specs.declared.replies.PieceState.TheVariants.{Out, Dropped, Over}
 use Rattle.machine_model.specs.Moment.{Moment, Piece, Lost, Beginning, beginning_of, noted, happened, losses, begins_now, has_begun}
@@ -268,7 +268,7 @@ module _ (table : ConflictRelation) (courses : List Course) where
 -- so it is all along a run
 pub run-in_order : (table : ConflictRelation) (s : Machine) → IsTrue (is_run table s) → LostInOrder (now table s)
 run-in_order table s run = run-keeps table s LostInOrder (advance-in_order table s.courses) run
-    (record { tidy = opening-tidy s.opening; lost = tt; kept = tt; all = λ n p b found began out. absurd (none-some b began) })
+    (record { tidy = opening-tidy s.opening; lost = tt; kept = tt; all = λ n p b found began out. absurd (none-some p found) })
 
 module _ (m : Moment) (n k : ℕ) (order : LostInOrder m) where
   dropped_from : (t : Bool) (o : Option Lost) → runs m n ≡ t → find (is_lost_number n) m.lost ≡ o → (if t then Out else dropped_or_over (event_of_lost o)) ≡ Dropped k → WasDroppedAt m n k

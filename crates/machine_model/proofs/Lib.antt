@@ -25,10 +25,12 @@ pub mod LastElements
 pub mod OpenCascade
 pub mod MachineCourses
 pub mod CoursesRuns
+pub mod MarkCourses
 pub mod SessionCalls
 pub mod WaysOn
 pub mod NextInOrder
 pub mod Ahead
+pub mod Marks
 pub mod OwnOrder
 pub mod OwnOrderLaws
 pub mod GonePieces

@@ -11,8 +11,8 @@ use Rattle.schedule_model.specs.Holdings.{holders}
 use Rattle.schedule_model.proofs.Active.{is_active-is_in, is_in-filter}
 use Rattle.machine_model.specs.declared.kept.Kept.{Kept}
 use Rattle.machine_model.specs.declared.kept.Kept.TheVariants.{Start, Hand, Effect, Refuse, Abort, Victim, Restart}
-use Rattle.machine_model.specs.declared.began.Cause.{Cause}
-use Rattle.machine_model.specs.declared.began.Cause.TheVariants.{Refused, Abort as WasAborted, Victim as WasVictim}
+use Rattle.schedule_model.specs.declared.marks.Cause.{Cause}
+use Rattle.schedule_model.specs.declared.marks.Cause.TheVariants.{Refused, Abort as WasAborted, Victim as WasVictim}
 use Rattle.machine_model.specs.Cascade.{drags}
 use Rattle.machine_model.specs.CauseLaws.{HasCause, IsDragged, after_refusal}
 use Rattle.machine_model.specs.Progress.{way_on}

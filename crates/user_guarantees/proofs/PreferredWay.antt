@@ -120,7 +120,7 @@ module _ (table : ConflictRelation) (plans : List Plan) (good : AreGood plans) (
 
   pub session-well : (s : Machine) (session : IsSession table plans s) → is_in i (starts s.opening) ≡ false → WentWell (now table s)
   session-well s session new =
-      let opening = run-own_order table plans good (record { opening = s.opening; courses = s.courses; kept = []; served = 0 }) session.courses session.legal refl in
+      let opening = run-own_order table plans good (record { opening = s.opening; courses = s.courses; kept = []; served = 0 }) session.courses session.legal session.marks refl in
       subst (λ xs. WentWell (advance_all table xs (opening_moment s.opening) s.kept)) (sym session.courses)
       (goes_on-keeps table cs WentWell advance-well (opening_moment s.opening) s.kept (ap (λ xs. goes_on_from table xs (opening_moment s.opening) s.kept) (sym session.courses) ∙ session.run)
       (record { own = opening; on = λ never none. way-unstarted plans good i w others paths s.opening opening.legal new }))
@@ -160,7 +160,7 @@ cause_or_way courses m i false [] never refused way = absurd (way never refused)
 
 pub undos_have_causes : UndosHaveCauses
 undos_have_causes table plans s i session new undone =
-    let legal = (run-own_order table plans session.good s session.courses session.legal session.run).legal in
+    let legal = (run-own_order table plans session.good s session.courses session.legal session.marks session.run).legal in
     let way = has_way s.courses (now table s) (subst (λ cs. IsTrue (is_legal no_conflict cs (history table s))) (sym session.courses) legal) i undone in
     cause_or_way s.courses (now table s) i (has_begun (now table s) i) (refused_steps s.courses (now table s) i) refl refl
     (λ never none. no_undo_on_way s.courses (now table s) i way.0 (preferred_way table plans s i way.0 session new way.1 never none) undone)
