@@ -46,7 +46,7 @@ use Rattle.core_state.specs.OpenTables.{planned_of, row_of, tables_of}
 use Rattle.core_state.specs.Seats.{SeatState, Stands, seat_of, seats_of}
 use Rattle.core_state.proofs.BegunAll.{BeginsNow, Goes, Tells, begun_stands, goes}
 use Rattle.core_state.proofs.BegunRestart.{active_apart, began_is, event_is, no_beginning, some_beginning}
-use Rattle.core_state.proofs.BegunStarted.{dragged_active}
+use Rattle.machine_model.proofs.Started.{dragged_active}
 use Rattle.core_state.proofs.HandStands.{with_event}
 use Rattle.core_state.proofs.MayStand.{numbered_map}
 use Rattle.core_state.proofs.SeatFacts.{has_plan}

@@ -33,7 +33,7 @@ use Rattle.machine_model.proofs.TidyMoments.{run-tidy}
 use Rattle.machine_model.proofs.WaysOn.{staying-least}
 use Rattle.core_state.specs.Cores.{CoreState, IsCore, courses_in, machine_of, moment_of, relation}
 use Rattle.core_state.proofs.BegunRestart.{no_beginning}
-use Rattle.core_state.proofs.BegunStarted.{after_refusal_still}
+use Rattle.machine_model.proofs.Started.{after_refusal_still}
 use Rattle.core_state.proofs.DraggedAlong.{IsMiddle}
 use Rattle.core_state.proofs.EffectRows.{listed, runs_it}
 

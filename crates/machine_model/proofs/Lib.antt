@@ -69,6 +69,7 @@ pub mod LastPending
 pub mod WholeLaws
 pub mod Going
 pub mod Causes
+pub mod Started
 pub mod OneLost
 pub mod WithinTries
 pub mod HandsBound

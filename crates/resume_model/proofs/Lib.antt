@@ -1,4 +1,3 @@
-pub mod Started
 pub mod Standing
 pub mod Stops
 pub mod Rest

@@ -1,32 +1,27 @@
 -- Who has begun and what was refused, at each moment of a session.
 use Rattle.std.proofs.Common.{◌≡◌, ℕ, ◌≤◌, Bool, true, false, cond, eqb, ◌&&◌, List, [], ◌∷◌, ◌++◌, length, map, filter, Option, Some, None, sym, refl, ap, subst, ◌∙◌, arith}
-use Rattle.std.specs.List.{list_all, list_any}
-use Rattle.std.proofs.lemmas.Bool.{and_parts, eqb-true, leb-true}
+use Rattle.std.specs.List.{list_any}
+use Rattle.std.proofs.lemmas.Bool.{eqb-true}
 use Rattle.process_tree.specs.declared.plan.Plan.{Plan}
 use Rattle.process_tree.specs.Shape.{can_be_refused, kind_of}
-use Rattle.schedule_model.specs.declared.marks.Begun.{Begun}
 use Rattle.schedule_model.specs.declared.marks.RefusedStep.{RefusedStep}
 use Rattle.schedule_model.specs.Course.{Course, courses_of, shape}
 use Rattle.schedule_model.specs.Conflict.{ConflictRelation}
 use Rattle.schedule_model.specs.Histories.{is_in, starts}
-use Rattle.schedule_model.proofs.Members.{Among, all-among, among-any, among-map}
+use Rattle.schedule_model.proofs.Members.{Among}
 use Rattle.machine_model.specs.declared.kept.Kept.{Kept}
 use Rattle.machine_model.specs.declared.kept.Kept.TheVariants.{Start, Hand, Effect, Refuse, Abort, Victim, Restart}
-use Rattle.machine_model.specs.Moment.{Beginning, Moment, Opening, Piece, beginning, happened, has_begun, noted, opening_moment}
+use Rattle.machine_model.specs.Moment.{Beginning, Moment, Opening, Piece, happened, has_begun, noted, opening_moment}
 use Rattle.machine_model.specs.Pieces.{piece_of}
-use Rattle.machine_model.specs.State.{progress}
-use Rattle.machine_model.specs.Sound.{is_ahead, is_beginning_of, is_refusal_of}
 use Rattle.machine_model.specs.Advance.{Machine, advance, advance_all, event_of, with_piece}
 use Rattle.machine_model.specs.Runs.{goes_on_from, may_be_kept, now}
 use Rattle.machine_model.specs.Sound.{do_marks_belong}
 use Rattle.machine_model.specs.Laws.{IsSession}
-use Rattle.machine_model.proofs.Counting.{count, count-map, count-none, count-push, found-any}
+use Rattle.machine_model.proofs.Counting.{count, count-none, count-push, found-any}
 use Rattle.machine_model.proofs.CoursesRuns.{starts-stay}
-use Rattle.machine_model.proofs.Marks.{marks-parts}
-use Rattle.machine_model.proofs.OneOut.{count-filter}
 use Rattle.machine_model.proofs.RefusedBefore.{refused-stay}
 use Rattle.machine_model.proofs.RunInduction.{IsKeptByBeginnings, advance-keeps, entered, goes_on-keeps}
-use Rattle.resume_model.proofs.Started.{AllStarted, advance-all_started}
+use Rattle.machine_model.proofs.Started.{AllStarted, advance-all_started, its_refusal, opening-started, opening_once}
 
 -- No event has anybody begin before it is entered.
 effect_begun : (courses : List Course) (m : Moment) (o : Option Piece) → (with_piece (λ p. happened m (event_of courses p)) m o).beginnings ≡ m.beginnings
@@ -93,47 +88,18 @@ module _ (table : ConflictRelation) (courses : List Course) where
     refusals = advance-belonging table courses m k facts.refusals;
   }
 
-  module _ (o : Opening) (begun : list_all (is_beginning_of o) o.begun ≡ true) (refused : list_all (is_refusal_of courses o) o.refused ≡ true) where
-    -- a beginning of this process that the opening has
-    its_beginning : (i : ℕ) → list_any (λ (b : Beginning). eqb b.process i) (map beginning o.begun) ≡ true → (c : Begun) × (c.process ≡ i) × (is_beginning_of o c ≡ true)
-    its_beginning i some =
-        let b = among-any (λ (x : Beginning). eqb x.process i) (map beginning o.begun) some in
-        let c = among-map beginning b.0 o.begun b.1 in
-        (c.0, ap (λ (x : Beginning). x.process) c.2 ∙ eqb-true b.0.process i b.2, all-among (is_beginning_of o) o.begun begun c.0 c.1)
-
-    begun_started : (i : ℕ) → has_begun (opening_moment o) i ≡ true → is_in i (starts o.history) ≡ true
-    begun_started i is =
-        let c = its_beginning i (sym (found-any (λ (b : Beginning). eqb b.process i) (map beginning o.begun)) ∙ is) in
-        subst (λ j. is_in j (starts o.history) ≡ true) c.1 (and_parts (is_in c.0.process (starts o.history)) _ c.2).0
-
-    begun_once : BegunOnce (opening_moment o)
-    begun_once i = by_any (list_any (λ (b : Beginning). eqb b.process i) (map beginning o.begun)) refl
-      where
-        by_any : (t : Bool) → list_any (λ (b : Beginning). eqb b.process i) (map beginning o.begun) ≡ t → count (λ (b : Beginning). eqb b.process i) (map beginning o.begun) ≤ 1
-        by_any false none = let zero' = count-none (λ (b : Beginning). eqb b.process i) (map beginning o.begun) none in omega arith
-        by_any true some =
-            let c = its_beginning i some in
-            let few = leb-true (length (filter (λ (d : Begun). eqb d.process c.0.process) o.begun)) 1 (and_parts (is_in c.0.process (starts o.history)) _ c.2).1 in
-            let same = ap (λ j. length (filter (λ (d : Begun). eqb d.process j) o.begun)) c.1 in
-            let all = count-filter (λ (d : Begun). eqb d.process i) o.begun in
-            let mapped = count-map (λ (b : Beginning). eqb b.process i) beginning o.begun in
-            omega arith
-
-    -- at the moment of an opening
-    pub opened-stands : Stands (opening_moment o)
-    opened-stands = record {
-      started = record { pieces = tt; begun = begun_started };
-      once = begun_once;
-      refusals = λ r among. (and_parts (is_in r.process (starts o.history)) _
-          (and_parts (is_in r.process (starts o.history) && can_be_refused (kind_of (shape courses r.process) r.step)) (is_ahead (progress courses (opening_moment o) r.process))
-          (all-among (is_refusal_of courses o) o.refused refused r among)).0);
-    }
+  -- at the moment of an opening
+  opening-stands : (o : Opening) → do_marks_belong courses o ≡ true → Stands (opening_moment o)
+  opening-stands o marks = record {
+    started = opening-started table courses o marks;
+    once = opening_once table courses o marks;
+    refusals = its_refusal table courses o marks;
+  }
 
 -- so it does at each moment of a session
 pub now-stands : (table : ConflictRelation) (plans : List Plan) (s : Machine) (session : IsSession table plans s) → Stands table (courses_of plans) (now table s)
 now-stands table plans s session =
-    let marks = marks-parts (courses_of plans) s.opening (ap (λ xs. do_marks_belong xs s.opening) (sym session.courses) ∙ session.marks) in
     subst (λ xs. Stands table (courses_of plans) (advance_all table xs (opening_moment s.opening) s.kept)) (sym session.courses)
     (goes_on-keeps table (courses_of plans) (Stands table (courses_of plans)) (advance-stands table (courses_of plans)) (opening_moment s.opening) s.kept
     (ap (λ xs. goes_on_from table xs (opening_moment s.opening) s.kept) (sym session.courses) ∙ session.run)
-    (opened-stands table (courses_of plans) s.opening marks.0 marks.1))
+    (opening-stands table (courses_of plans) s.opening (ap (λ xs. do_marks_belong xs s.opening) (sym session.courses) ∙ session.marks)))

@@ -1,6 +1,9 @@
 // Histories.
+ghost use Rattle.std.specs.Prelude.{◌≡◌, [], IfOk};
+
 use crate::{Beginnings, Events, MOST_PROCESSES, Preallocated, Refusals};
 use process_tree::Plan;
+use std::alloc::{AllocError, Global};
 
 /// A list of plans, with room for those that the limits admit.
 pub type Plans = Preallocated<Plan, MOST_PROCESSES>;
@@ -15,4 +18,20 @@ pub struct History {
     pub begun: Beginnings,
     /// In order.
     pub refused: Refusals,
+}
+
+impl History {
+    /// A history in which nobody has begun to complete, and no step was refused.
+    pub fn unmarked(alloc: Global, plans: Plans, events: Events) -> Result<History, AllocError>
+        ensures { IfOk result (λ h. h ≡ record { plans = plans; events = events; begun = []; refused = [] }) }
+    {
+        let begun = Beginnings::new(Vec::new(alloc))?;
+        let refused = Refusals::new(Vec::new(alloc))?;
+        Ok(History {
+            plans,
+            events,
+            begun,
+            refused,
+        })
+    }
 }
