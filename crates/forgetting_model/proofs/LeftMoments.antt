@@ -177,6 +177,7 @@ module _ (table : ConflictRelation) (courses : List Course) (h : List Event) (le
         out = left.out;
         begun = λ k goes'. begun-left k (positive k goes');
         refused = λ k goes'. refused-left k (positive k goes');
+        before = λ k goes'. left.refused k (positive k goes');
       }
 
       -- an active process of m is number k of one of n
@@ -232,6 +233,7 @@ module _ (table : ConflictRelation) (courses : List Course) (h : List Event) (le
     out = out_left k known m.out n.out left.out;
     lost = left.lost;
     beginnings = left.beginnings;
+    refused = left.refused;
   }
 
   -- one more event of the history
@@ -245,6 +247,7 @@ module _ (table : ConflictRelation) (courses : List Course) (h : List Event) (le
     out = left.out;
     lost = left.lost;
     beginnings = left.beginnings;
+    refused = left.refused;
   }
 
   -- A beginning.
@@ -284,6 +287,7 @@ module _ (table : ConflictRelation) (courses : List Course) (h : List Event) (le
             ∙ (ap (λ e. map (renumbered_beginning (number_since h)) m.beginnings ++ record { process = k; began = record { event = e; cause = renumbered_cause (number_since h) cause } } ∷ []) count
             ∙ (ap (λ i. map (renumbered_beginning (number_since h)) m.beginnings ++ record { process = i; began = record { event = length m.kept; cause = renumbered_cause (number_since h) cause } } ∷ []) (sym (since-old k some))
             ∙ sym (map-append (renumbered_beginning (number_since h)) m.beginnings (record { process = number_in h k; began = record { event = length m.kept; cause = cause } } ∷ []))));
+        refused = left.refused;
       }
 
   begins_by : (m n : Moment) (cause : Cause) (k : ℕ) → 1 ≤ k → IsLeftOf h m n → (s t : Bool) → s ≡ t

@@ -28,7 +28,7 @@ use Rattle.machine_model.specs.Moment.{Moment, Piece, has_begun}
 use Rattle.machine_model.specs.Pieces.{is_try_of, refusals, refused_pieces, running_of}
 use Rattle.machine_model.specs.Progress.{Progress, Task, above, is_only_try, next_task, same_work, staying}
 use Rattle.machine_model.specs.ProcessState.{ProcessState, has_used_up}
-use Rattle.machine_model.specs.State.{against_work, entry_by, entry_of, hold_of, holdings, is_exhausted, next_of, owed_by_class, owed_by_work, owed_soon, pending_of, process_state, progress, refused_steps, tried}
+use Rattle.machine_model.specs.State.{against_work, entry_by, entry_of, hold_of, holdings, is_exhausted, next_of, owed_by_class, owed_by_work, owed_soon, pending_of, process_state, progress, refused_before, refused_steps, tried}
 use Rattle.machine_model.proofs.OpenHoldings.{holders-active}
 use Rattle.forgetting_model.specs.Moments.{refused_tasks, renumbered_piece, task_of}
 use Rattle.forgetting_model.specs.Remaining.{events_of, renumbered, renumbered_entry}
@@ -88,6 +88,7 @@ pub record AreMirrored (number : ℕ → ℕ) (apart : AreApart number) (keep : 
   pub out : m.out ≡ map (renumbered_piece number) n.out
   pub begun : (k : ℕ) → IsTrue (is_active n.events k) → has_begun m (number k) ≡ has_begun n k
   pub refused : (k : ℕ) → IsTrue (is_active n.events k) → refused_tasks m (number k) ≡ refused_tasks n k
+  pub before : (k : ℕ) → IsTrue (is_active n.events k) → refused_before m (number k) ≡ refused_before n k
 
 module _ (number : ℕ → ℕ) (apart : AreApart number) (keep : ℕ → Bool) (table : ConflictRelation) (courses since : List Course) (m n : Moment)
     (are : AreMirrored number apart keep courses since m n) where
@@ -117,12 +118,18 @@ module _ (number : ℕ → ℕ) (apart : AreApart number) (keep : ℕ → Bool) 
       ∙ find-mapped (renumbered_piece number) (λ (p : Piece). eqb p.process (number k)) (λ (p : Piece). eqb p.process k) n.out (λ p. apart p.process k)
 
   module _ (k : ℕ) (goes : IsTrue (is_active n.events k)) where
-    refused_steps-left : refused_steps courses m (number k) ≡ refused_steps since n k
-    refused_steps-left =
+    refused_now-left : map (λ (p : Piece). p.step) (filter (λ (p : Piece). eqb p.process (number k) && is_only_try (shape courses (number k)) p.step p.work) (refused_pieces m.kept))
+        ≡ map (λ (p : Piece). p.step) (filter (λ (p : Piece). eqb p.process k && is_only_try (shape since k) p.step p.work) (refused_pieces n.kept))
+    refused_now-left =
         steps_refused (shape courses (number k)) (number k) (refused_pieces m.kept)
         ∙ (ap (λ (c : Course). map (λ (x : Task). x.step) (filter (λ (x : Task). is_only_try c.shape x.step x.work) (refused_tasks m (number k)))) (are.same k goes)
         ∙ (ap (λ ts. map (λ (x : Task). x.step) (filter (λ (x : Task). is_only_try (shape since k) x.step x.work) ts)) (are.refused k goes)
         ∙ sym (steps_refused (shape since k) k (refused_pieces n.kept))))
+
+    refused_steps-left : refused_steps courses m (number k) ≡ refused_steps since n k
+    refused_steps-left =
+        ap (λ bs. bs ++ map (λ (p : Piece). p.step) (filter (λ (p : Piece). eqb p.process (number k) && is_only_try (shape courses (number k)) p.step p.work) (refused_pieces m.kept))) (are.before k goes)
+        ∙ ap (λ bs. refused_before n k ++ bs) refused_now-left
 
     pub refusals-left : (b : ℕ) (w : Work) → refusals m.kept (number k) b w ≡ refusals n.kept k b w
     refusals-left b w =

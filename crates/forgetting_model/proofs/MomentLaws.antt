@@ -24,6 +24,7 @@ use Rattle.schedule_model.proofs.Legal.{is_legal-prefix}
 use Rattle.schedule_model.proofs.Members.{Among, among-filter, among-from_contains, contains-from_among, in_map, is_in-among}
 use Rattle.schedule_model.proofs.Orders.{behind-same_step}
 use Rattle.schedule_model.proofs.Started.{among_net_of, net-started}
+use Rattle.schedule_model.specs.declared.marks.RefusedStep.{RefusedStep}
 use Rattle.schedule_model.specs.declared.marks.Cause.TheVariants.{Abort as Aborted, Victim as WasVictim, Restart as Restarted}
 use Rattle.machine_model.specs.declared.kept.Kept.{Kept}
 use Rattle.machine_model.specs.declared.kept.Kept.TheVariants.{Start, Hand, Effect, Refuse, Abort, Victim, Restart}
@@ -46,11 +47,12 @@ use Rattle.machine_model.proofs.RunsWithin.{runs_are_legal}
 use Rattle.machine_model.proofs.TidyMoments.{piece_of-more}
 use Rattle.machine_model.proofs.UndoneFree.{undone_conflicts, undone_next}
 use Rattle.machine_model.proofs.Victims.{victim-is}
-use Rattle.forgetting_model.specs.Moments.{EventsLeadAlike, ForgettingChangesNoState, ForgettingChangesNoVictim, IsLeftOf, SomethingIsLeft, StandsAlike, left_of, renumbered_kept, renumbered_piece}
+use Rattle.forgetting_model.specs.Moments.{EventsLeadAlike, ForgettingChangesNoState, ForgettingChangesNoVictim, IsLeftOf, SomethingIsLeft, StandsAlike, left_of, refused_since, renumbered_kept, renumbered_piece}
 use Rattle.forgetting_model.specs.Remaining.{as_before, courses_left, events_of, is_open, number_in, number_since, remaining, renumbered, renumbered_entry, renumbered_event}
 use Rattle.forgetting_model.proofs.Dropped.{behind-kept, kept_entry, net-kept}
 use Rattle.forgetting_model.proofs.HeldBy.{behind-by}
-use Rattle.forgetting_model.proofs.LeftMoments.{HandIsKnown, active_known, active_since, all_begin-left, apart, back-left, event-left, happened-left, mirrored, noted-left, order, piece_of-by, positive, work-left}
+use Rattle.forgetting_model.proofs.Mapped.{filter-mapped, map-unchanged}
+use Rattle.forgetting_model.proofs.LeftMoments.{HandIsKnown, active_known, active_since, all_begin-left, apart, back-left, event-left, happened-left, mirrored, noted-left, order, piece_of-by, positive, since_is, work-left}
 use Rattle.forgetting_model.proofs.Mirrored.{AreMirrored, active-left, exhausted-left, is_active-left, next-left, running-left, state-left}
 use Rattle.forgetting_model.proofs.MirroredBlocks.{OpenIsEnough, block-left, blocked-left, cascade-left, free-left, stalled-left, victim-left}
 use Rattle.forgetting_model.proofs.Numbers.{old-new}
@@ -265,6 +267,9 @@ something_is_left table plans s session =
       out = pieces_back (number_in m.events) (number_since m.events) m.out (each_known m.events m.out (session-ended_free table plans s session).fixing.running.own.active);
       lost = refl;
       beginnings = refl;
+      refused = λ k some. sym (ap (map (λ (r : RefusedStep). r.step)) (filter-mapped (refused_since m.events) (λ (r : RefusedStep). eqb r.process k) (λ (r : RefusedStep). eqb r.process (number_in m.events k)) m.refused
+          (λ r. since_is table s.courses m.events (runs_are_legal table plans s session).0 r.process k some))
+          ∙ map-unchanged (refused_since m.events) (λ (r : RefusedStep). r.step) (λ (r : RefusedStep). r.step) (filter (λ (r : RefusedStep). eqb r.process (number_in m.events k)) m.refused) (λ r. refl));
     }
 
 pub forgetting_changes_no_state : ForgettingChangesNoState

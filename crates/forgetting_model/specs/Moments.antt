@@ -1,5 +1,5 @@
 -- What is left of a moment of the machine where those that had ended are forgotten.
-use Rattle.std.specs.Prelude.{◌≡◌, ℕ, List, ◌++◌, filter, map, nat_eq, IsTrue}
+use Rattle.std.specs.Prelude.{◌≡◌, ◌≤◌, ℕ, List, ◌++◌, filter, length, map, nat_eq, take, IsTrue}
 use Rattle.std.specs.Option.{option_map}
 use Rattle.schedule_model.specs.declared.event.Event.{Event}
 use Rattle.schedule_model.specs.Course.{Course}
@@ -10,16 +10,17 @@ use Rattle.machine_model.specs.declared.blocked.Blocked.{Blocked}
 use Rattle.schedule_model.specs.declared.marks.Cause.{Cause}
 use Rattle.schedule_model.specs.declared.marks.Cause.TheVariants.{Refused, Abort as Aborted, Cascade, Victim as WasVictim}
 use Rattle.schedule_model.specs.declared.marks.Cause.TheVariants.{Restart as Restarted}
+use Rattle.schedule_model.specs.declared.marks.RefusedStep.{RefusedStep}
 use Rattle.machine_model.specs.declared.kept.Kept.{Kept}
 use Rattle.machine_model.specs.declared.kept.Kept.TheVariants.{Start, Hand, Effect, Refuse, Abort, Victim, Restart}
 use Rattle.machine_model.specs.Moment.{Beginning, Lost, Moment, Piece}
 use Rattle.machine_model.specs.Pieces.{refused_pieces, running_of}
 use Rattle.machine_model.specs.Progress.{Task}
-use Rattle.machine_model.specs.State.{block_of, is_blocked, is_exhausted, is_free, is_stalled, process_state, victim_of}
+use Rattle.machine_model.specs.State.{block_of, is_blocked, is_exhausted, is_free, is_stalled, process_state, refused_before, victim_of}
 use Rattle.machine_model.specs.Advance.{Machine, advance, cascade_of}
 use Rattle.machine_model.specs.Runs.{may_be_kept, now}
 use Rattle.machine_model.specs.Laws.{IsSession}
-use Rattle.forgetting_model.specs.Remaining.{as_before, courses_left, number_in, number_since, remaining}
+use Rattle.forgetting_model.specs.Remaining.{as_before, courses_left, events_of, is_open, number_in, number_since, remaining}
 
 -- a piece whose process has another number
 abbrev pub renumbered_piece : (ℕ → ℕ) → Piece → Piece
@@ -66,6 +67,11 @@ renumbered_beginning number b = record {
 abbrev pub renumbered_lost : (ℕ → ℕ) → Lost → Lost
 renumbered_lost number l = record { piece = renumbered_piece number l.piece; event = l.event }
 
+-- a refused step, by the number since of its process and how many of the events before it are left
+abbrev pub refused_since : List Event → RefusedStep → RefusedStep
+refused_since h r =
+    record { process = number_since h r.process; step = r.step; at = length (events_of (is_open h) (take r.at h)) }
+
 -- n is left of a moment m where those that had ended in h are forgotten: what followed is the same, and so is what is known of the
 -- session, by the numbers since; what was kept of those that are forgotten is of no process, which has number 0
 pub record IsLeftOf (h : List Event) (m n : Moment) : Type 0 where
@@ -77,6 +83,8 @@ pub record IsLeftOf (h : List Event) (m n : Moment) : Type 0 where
   pub out : m.out ≡ map (renumbered_piece (number_in h)) n.out
   pub lost : n.lost ≡ map (renumbered_lost (number_since h)) m.lost
   pub beginnings : n.beginnings ≡ map (renumbered_beginning (number_since h)) m.beginnings
+  -- each process has the same steps that were refused before the opening
+  pub refused : (k : ℕ) → 1 ≤ k → refused_before m (number_in h k) ≡ refused_before n k
 
 -- what is left of a moment where all that have ended are forgotten
 abbrev pub left_of : Moment → Moment
@@ -86,6 +94,7 @@ left_of m = record {
   out = map (renumbered_piece (number_since m.events)) m.out;
   lost = map (renumbered_lost (number_since m.events)) m.lost;
   beginnings = map (renumbered_beginning (number_since m.events)) m.beginnings;
+  refused = map (refused_since m.events) m.refused;
 }
 
 -- At each moment of a session those that have ended can be forgotten.
