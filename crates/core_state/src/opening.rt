@@ -10,8 +10,8 @@ ghost use Rattle.core_state.specs.Seats.{AreInOwnOrder, instance_of, seat_of, se
 
 use crate::seats::Seat;
 use instance_state::Instance;
-use process_tree::{Entry, Plan};
 use machine_model::Began;
+use process_tree::{Entry, Plan};
 use schedule_model::{Begun, Event, History, RefusedStep};
 use schedule_rules::active;
 use std::alloc::{AllocError, Global};

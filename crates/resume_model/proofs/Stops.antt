@@ -235,7 +235,7 @@ stops_resume table plans s session o left =
       },
       goes-on s.courses m o left,
       λ opened. ap (λ xs. is_closed table xs (opening_moment o)) session.courses
-      ∙ left-closed table cs m o its ((session-pending_closed table plans s session).closed (rested table plans s session.courses opened)),
+          ∙ left-closed table cs m o its ((session-pending_closed table plans s session).closed (rested table plans s session.courses opened)),
     )
 
 -- the step of a piece is listed where the piece is

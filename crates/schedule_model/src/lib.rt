@@ -26,6 +26,6 @@ pub use laws::{
     own_order_is_completed, reducible_histories_reduce, standing_facts_hold, the_shop_is_planned,
 };
 pub use limits::{MOST_ACTIVE, MOST_ENTRIES, MOST_EVENTS, MOST_PROCESSES};
-pub use marks::{Beginnings, Begun, Cause, RefusedStep, Refusals};
+pub use marks::{Beginnings, Begun, Cause, Refusals, RefusedStep};
 pub use preallocated::Preallocated;
 pub use trace_step::TraceStep;
