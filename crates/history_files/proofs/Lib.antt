@@ -1,5 +1,6 @@
 pub mod Places
 pub mod StandingStores
+pub mod FiledBooks
 pub mod SoundImages
 pub mod OneStore
 pub mod CalledStore

@@ -7,7 +7,7 @@ ghost use Rattle.process_disk.specs.Images.{EachImage};
 ghost use Rattle.schedule_model.specs.declared.history.History.{History};
 ghost use Rattle.commute_table.specs.declared.catalog.Catalog.{Catalog};
 ghost use Rattle.subsystem_store.specs.Opened.{Opened};
-ghost use Rattle.history_files.specs.Groups.{HasNoDoubt};
+ghost use Rattle.history_files.specs.Groups.{OwesNothing};
 ghost use Rattle.history_files.specs.Sound.{IsSound};
 ghost use Rattle.history_files.specs.Standing.{AreGoodBooks, Changes, DoubtIs, EachFits, RollsBack, Stand, StandForSome};
 
@@ -18,15 +18,15 @@ use resource_box::Resource;
 use subsystem_store::calls_make_good_books;
 
 impl<R: Rack + Drop, B: Resource> Files<R, B> {
-    /// Whether anything is in doubt in the store of some subsystem.
-    pub(crate) fn has_doubt(&self) -> bool
-        ensures settled { result ≡ false → HasNoDoubt self.now.stores }
-        ensures some { HasNoDoubt self.now.stores → result ≡ false }
+    /// Whether some file is owed a commit.
+    pub(crate) fn owes(&self) -> bool
+        ensures none { result ≡ false → OwesNothing self.now.stores }
+        ensures some { OwesNothing self.now.stores → result ≡ false }
     {
         self.stores_hold();
         let mut q = 0;
         while q < SUBSYSTEMS {
-            if !self.in_doubt(q).is_empty() {
+            if self.stores[usize::from(q)].owes() {
                 return true;
             }
             q += 1;

@@ -15,4 +15,4 @@ mod events;
 
 pub use disk::{open_on_disk, write_each};
 pub use effects::Effects;
-pub use events::{commit_each, prepare_each, stage_effects, take_effects};
+pub use events::{owe_each, prepare_each, stage_effects, take_effects, write_owed};
