@@ -11,10 +11,11 @@ use Rattle.resource_box.specs.declared.call.Kind.{Kind}
 use Rattle.subsystem_store.specs.declared.effect.Effect.{Effect}
 use Rattle.subsystem_store.specs.Laws.{CommittedIsGood, FitsItsBytes, IsGoodBook, PreparedIsGood}
 use Rattle.subsystem_store.specs.Opened.{Account, Opened, IsStoreOfEither, filed_book, filed_doubt}
-use Rattle.store_group.specs.Events.{BecomeEach, IsPaid, IsPrepared, IsUnchanged, MayPrepare, MayPrepareEach, OwesCommit, effects_for, filed_with}
+use Rattle.store_group.specs.Events.{BecomeEach, IsCommitted, IsPaid, IsPrepared, IsUnchanged, MayPrepare, MayPrepareEach, OwesCommit, effects_for, filed_with}
 use Rattle.store_group.specs.Groups.{AllStand, SameButStores}
 use Rattle.store_group.proofs.Beside.{images_beside, stands_beside}
-use Rattle.store_group.proofs.InOrder.{of_became}
+use Rattle.store_group.proofs.InOrder.{become_then, of_became}
+use Rattle.store_group.proofs.Taken.{owing_stand}
 use Rattle.process_journal.specs.Bodies.{journal_bodies}
 use Rattle.history_files.specs.Effects.{effects}
 use Rattle.history_files.specs.Groups.{FitEach, HasEachDoubt, LacksEach}
@@ -55,6 +56,19 @@ images_of_group {B} c h log stores old new after honest are zero stand run may e
       (subst (λ k. IsStoreOfEither k (filed_book s, filed_doubt s) (after q s) files) (are.file q s at) (each.has files left q s at)));
 }
 
+-- What holds of a store as it became: it may have its book, which comes to the effects of the history.
+abbrev pub ComesAfter : {B : Type 0} → Catalog → History → ℕ → Opened B → Type 0
+ComesAfter c h q t = IsGoodBook t.kind t.book t.doubt × (counted (effects c.ops h q) t.book t.doubt ≡ effects c.ops h q)
+
+pub comes_after : {B : Type 0} (c : Catalog) (h : History) (stores changed : List (Opened B)) (after : ℕ → Opened B → List Effect × List Effect) → AreStores stores
+    → ((q : ℕ) (s : Opened B) → slice_get stores q ≡ Some s → MayBe (effects c.ops h q) q (after q s))
+    → BecomeEach (λ q s t. (t.kind ≡ s.kind) × (t.book ≡ (after q s).0) × (t.doubt ≡ (after q s).1)) stores changed
+    → (q : ℕ) (t : Opened B) → slice_get changed q ≡ Some t → ComesAfter c h q t
+comes_after c h stores changed after are may became = of_became _ (ComesAfter c h) stores changed became (λ q s t at by. (
+  subst (λ k. IsGoodBook k t.book t.doubt) (sym (by.0 ∙ are.kind q s at)) (subst (λ b. IsGoodBook (kind_of q) b t.doubt) (sym by.1) (subst (λ d. IsGoodBook (kind_of q) (after q s).0 d) (sym by.2) (may q s at).good)),
+  subst (λ b. counted (effects c.ops h q) b t.doubt ≡ effects c.ops h q) (sym by.1) (subst (λ d. counted (effects c.ops h q) (after q s).0 d ≡ effects c.ops h q) (sym by.2) (may q s at).counts),
+))
+
 -- After it the files stand for the history, where each store stands for a book that comes to its effects.
 pub stands_with_group : {B : Type 0} (c : Catalog) (h : History) (log : LogState) (stores changed : List (Opened B)) (old new : Disk) (after : ℕ → Opened B → List Effect × List Effect)
     → IsHonest old → IsHonest new → AreStores stores → log.file ≡ 0 → Stand c h log stores old → RunBy (SameButStores stores) old new
@@ -67,19 +81,9 @@ stands_with_group {B} c h log stores changed old new after honest honest_new are
     log = stands_beside stores log (journal_bodies c h) old new honest honest_new (λ q s at is. absurd (omega (arith, is, zero, are.file q s at))) run stand.journal.log;
   };
   stores = λ q t at. stands q t at;
-  good = λ q t at. (so q t at).0;
-  books = λ q t at. (so q t at).1;
+  good = λ q t at. (comes_after c h stores changed after are may became q t at).0;
+  books = λ q t at. (comes_after c h stores changed after are may became q t at).1;
 }
-  where
-    -- what holds of a store as it became
-    Comes : ℕ → Opened B → Type 0
-    Comes q t = IsGoodBook t.kind t.book t.doubt × (counted (effects c.ops h q) t.book t.doubt ≡ effects c.ops h q)
-
-    so : (q : ℕ) (t : Opened B) → slice_get changed q ≡ Some t → Comes q t
-    so = of_became _ Comes stores changed became (λ q s t at by. (
-      subst (λ k. IsGoodBook k t.book t.doubt) (sym (by.0 ∙ are.kind q s at)) (subst (λ b. IsGoodBook (kind_of q) b t.doubt) (sym by.1) (subst (λ d. IsGoodBook (kind_of q) (after q s).0 d) (sym by.2) (may q s at).good)),
-      subst (λ b. counted (effects c.ops h q) b t.doubt ≡ effects c.ops h q) (sym by.1) (subst (λ d. counted (effects c.ops h q) (after q s).0 d ≡ effects c.ops h q) (sym by.2) (may q s at).counts),
-    ))
 
 -- what a store comes to with its effects prepared,
 abbrev pub after_prepare : {B : Type 0} → List (List Effect) → ℕ → Opened B → List Effect × List Effect
@@ -204,3 +208,27 @@ as_paid old new became = record {
   count = became.count;
   each = λ q s t at_s at_t. let by = became.each q s t at_s at_t in (ap (λ a. a.kind) by.account, ap (λ a. a.book) by.account, ap (λ a. a.doubt) by.account);
 }
+
+-- what a store comes to where its book stays
+abbrev pub as_it_is : {B : Type 0} → ℕ → Opened B → List Effect × List Effect
+as_it_is q s = (s.book, s.doubt)
+
+-- Stores that take what is in doubt, which the history has, among their committed effects, and owe the commits, stand as before.
+pub stands_owing : {B : Type 0} → EndedIsGood → (c : Catalog) (h : History) (log : LogState) (stores new : List (Opened B)) (disk : Disk) → AreStores stores → Stand c h log stores disk
+    → HasEachDoubt c.ops h stores → BecomeEach (λ q s t. OwesCommit s t) stores new → Stand c h log new disk
+stands_owing law c h log stores new disk are stand has became = record {
+  journal = stand.journal;
+  stores = λ q t at. owing_stand stores new disk became stand.stores q t at;
+  good = λ q t at. (comes_after c h stores new after_commit are (may_be_committed law c h log stores disk are stand has) (as_committed stores new became) q t at).0;
+  books = λ q t at. (comes_after c h stores new after_commit are (may_be_committed law c h log stores disk are stand has) (as_committed stores new became) q t at).1;
+}
+
+-- once their commits are written they are committed
+pub committed_then_paid : {B : Type 0} (old mid new : List (Opened B)) → BecomeEach (λ q s t. OwesCommit s t) old mid → BecomeEach (λ q s t. IsPaid s t) mid new → BecomeEach (λ q s t. IsCommitted s t) old new
+committed_then_paid old mid new owes paid = become_then (λ q s t. OwesCommit s t) (λ q s t. IsPaid s t) (λ q s t. IsCommitted s t) old mid new owes paid (λ q s t u owe pay. record {
+  file = pay.file ∙ ap (λ l. l.file) owe.log;
+  kind = ap (λ a. a.kind) pay.account ∙ owe.kind;
+  book = ap (λ a. a.book) pay.account ∙ owe.book;
+  doubt = ap (λ a. a.doubt) pay.account ∙ owe.doubt;
+  owed = pay.owed;
+})

@@ -11,7 +11,7 @@ pub mod Answered
 pub mod PreparedGroups
 pub mod Preparing
 pub mod GoodBooks
-pub mod NoDoubt
+pub mod NothingOwed
 pub mod Clearing
 pub mod MadeStores
 pub mod UsedFiles

@@ -1,4 +1,4 @@
-// What is in doubt in the stores: whether anything is, and what the history hasn't all of is taken back.
+// Whether a commit is owed, and how what the history hasn't all of is taken back.
 ghost use Rattle.std.specs.Prelude.{◌≡◌, ◌≢◌, ◌<◌, [], Some, OnOk, IsErr, false};
 ghost use Rattle.std.specs.List.{slice_get};
 ghost use Rattle.process_disk.specs.Disk.{Told};
@@ -26,12 +26,21 @@ impl<R: Rack + Drop, B: Resource> Files<R, B> {
         self.stores_hold();
         let mut q = 0;
         while q < SUBSYSTEMS {
-            if self.stores[usize::from(q)].owes() {
+            if self.owes_at(q) {
                 return true;
             }
             q += 1;
         }
         false
+    }
+
+    // Whether the file of a subsystem is owed a commit.
+    fn owes_at(&self, q: u8) -> bool
+        requires subsystem { q < 8 }
+        ensures none { (s : Opened B) → slice_get self.now.stores q ≡ Some s → result ≡ false → s.owed ≡ 0 }
+        ensures some { (s : Opened B) → slice_get self.now.stores q ≡ Some s → s.owed ≡ 0 → result ≡ false }
+    {
+        self.stores[usize::from(q)].owes()
     }
 
     /// Takes back all that is in doubt in the store of a subsystem, which the history hasn't all of.

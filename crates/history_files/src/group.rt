@@ -14,8 +14,10 @@ ghost use Rattle.process_journal.specs.Opened.{GoesOn};
 ghost use Rattle.process_journal.specs.Staged.{IsOnDisk};
 ghost use Rattle.history_files.specs.Sound.{IsSound, IsSoundForEither};
 ghost use Rattle.history_files.specs.Standing.{AreGoodBooks, ComeTo, EachFits, Stand, StandForSome};
-ghost use Rattle.store_group.specs.Events.{BecomeEach, IsCommitted, IsPaid, IsPrepared, IsUnchanged, MayPrepareEach, OwesCommit, effects_for};
-ghost use Rattle.history_files.specs.Groups.{FitEach, HasEachDoubt, LacksEach, OwesNothing};
+ghost use Rattle.store_group.specs.Events.{BecomeEach, IsCommitted, IsPaid, IsPrepared, IsUnchanged, MayPrepareEach, OwesCommit};
+ghost use Rattle.store_group.specs.Events.{effects_for};
+ghost use Rattle.store_group.specs.Groups.{AllStand};
+ghost use Rattle.history_files.specs.Groups.{FitEach, HasEachDoubt, HasNoDoubt, LacksEach, OwesNothing};
 
 use crate::Files;
 use crate::putting::{prepare_all, write_records};
@@ -87,6 +89,7 @@ impl<R: Rack + Drop, B: Resource> Files<R, B> {
         ensures good { AreGoodBooks self.old.stores → AreGoodBooks self.new.stores }
         ensures same { (self.new.journal ≡ self.old.journal) × (self.new.rack ≡ self.old.rack) }
         ensures owes { BecomeEach (λ q s t. OwesCommit s t) self.old.stores self.new.stores }
+        ensures none { HasNoDoubt self.old.stores → self.new ≡ self.old }
     {
         calls_make_good_books();
         owe_each(&mut self.stores);
@@ -96,7 +99,7 @@ impl<R: Rack + Drop, B: Resource> Files<R, B> {
     /// history, whichever commits are written in them. With nothing owed it makes no call of the rack.
     pub fn write_owed(&mut self) -> Result<(), DiskFault>
         requires fits { EachFits B.Resource self.old.stores }
-        requires stand { Told (R.disk self.old.rack) → StandForSome self.old.journal self.old.stores (R.disk self.old.rack) }
+        requires stand { Told (R.disk self.old.rack) → AllStand self.old.stores (R.disk self.old.rack) }
         ensures acknowledged { Told (R.disk self.old.rack) → (c : Catalog) (h : History)
             → Stand c h self.old.journal self.old.stores (R.disk self.old.rack) →
             OnOk result (Stand c h self.new.journal self.new.stores (R.disk self.new.rack)) }
@@ -119,11 +122,11 @@ impl<R: Rack + Drop, B: Resource> Files<R, B> {
     }
 
     /// Commits each effect that is in doubt, which the history has, and writes each commit that is owed, with two syncs for all. A
-    /// crash leaves files that are sound for the history, whichever commits are written in them.
+    /// crash leaves files that are sound for the history, whichever commits are written in them. With nothing in doubt and nothing
+    /// owed it makes no call of the rack.
     pub fn commit_staged(&mut self) -> Result<(), DiskFault>
         requires fits { EachFits B.Resource self.old.stores }
-        requires stand { Told (R.disk self.old.rack) → (c : Catalog) × (h : History)
-            × Stand c h self.old.journal self.old.stores (R.disk self.old.rack) × HasEachDoubt c.ops h self.old.stores }
+        requires stand { Told (R.disk self.old.rack) → StandForSome self.old.journal self.old.stores (R.disk self.old.rack) }
         ensures acknowledged { Told (R.disk self.old.rack) → (c : Catalog) (h : History)
             → Stand c h self.old.journal self.old.stores (R.disk self.old.rack) →
             HasEachDoubt c.ops h self.old.stores → OnOk result (Stand c h self.new.journal self.new.stores (R.disk self.new.rack)) }
@@ -134,6 +137,7 @@ impl<R: Rack + Drop, B: Resource> Files<R, B> {
         ensures good { AreGoodBooks self.old.stores → AreGoodBooks self.new.stores }
         ensures journal { self.new.journal ≡ self.old.journal }
         ensures ok { OnOk result (BecomeEach (λ q s t. IsCommitted s t) self.old.stores self.new.stores) }
+        ensures none { HasNoDoubt self.old.stores → OwesNothing self.old.stores → IsOk result × (self.new ≡ self.old) }
         ensures rack { LeavesImages R.Rack self.old.rack self.new.rack (IsErr result) }
     {
         self.owe_commits();

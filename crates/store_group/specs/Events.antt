@@ -58,7 +58,7 @@ pub record IsPrepared {B : Type 0} (effects : List Effect) (s t : Opened B) : Ty
   pub doubt : t.doubt ≡ s.doubt ++ effects
   pub owed : t.owed ≡ left_owed effects s.owed
 
--- all that was in doubt, if anything was, is committed in the book, and the file is owed the commit
+-- all that was in doubt, if anything was, is committed in the book, and the file is owed the commit; else the store stays
 pub record OwesCommit {B : Type 0} (s t : Opened B) : Type 0 where
   pub log : t.log ≡ s.log
   pub kind : t.kind ≡ s.kind
@@ -66,6 +66,7 @@ pub record OwesCommit {B : Type 0} (s t : Opened B) : Type 0 where
   pub doubt : t.doubt ≡ []
   pub filed_book : filed_book t ≡ filed_book s
   pub filed_doubt : filed_doubt t ≡ filed_doubt s
+  pub none : s.doubt ≡ [] → t ≡ s
 
 -- all that was in doubt is committed, and nothing is owed
 pub record IsCommitted {B : Type 0} (s t : Opened B) : Type 0 where

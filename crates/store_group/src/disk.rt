@@ -115,7 +115,7 @@ pub fn open_on_disk<R: Rack, B: Resource>(
 }
 
 /// Brings what is staged in each store onto the disk, with two syncs for all. A crash leaves each store as it was or with all
-/// that is staged in it, whichever the others are. The stores don't count it yet: `take_prepared` and `take_committed` do.
+/// that is staged in it, whichever the others are. The stores don't count it yet: `take_prepared` and `take_commit` do.
 pub fn put_on_disk<R: Rack, B: Resource>(stores: &[Store<B>], rack: &mut R) -> Result<(), DiskFault>
     requires order { AreInOrder stores.now }
     requires stand { Told (R.disk rack.old) → AllStand stores.now (R.disk rack.old) }

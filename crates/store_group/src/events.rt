@@ -1,4 +1,4 @@
-// The effects of a group in their stores: prepared together, and committed together.
+// The effects of a group in their stores: prepared together, committed together in memory, and later in the files.
 ghost use Rattle.std.specs.Prelude.{IsErr, OnErr, OnOk, ◌≡◌, ◌≢◌, []};
 ghost use Rattle.process_disk.specs.Disk.{Told};
 ghost use Rattle.process_disk.specs.Racks.{LeavesRack};

@@ -5,8 +5,8 @@
 //! leaves each store as it was or with all that is staged in it, whichever the others are (`specs/Groups`). The layer above
 //! knows that any of these is sound for its history.
 //!
-//! `prepare_each` prepares effects in each of several stores so, and `commit_each` commits what is in doubt in each
-//! (`specs/Events`).
+//! `prepare_each` prepares effects in each of several stores so, with the commits that are owed. `owe_each` takes what is in doubt in
+//! each among its committed effects and owes the files the commits, without a sync, and `write_owed` writes those (`specs/Events`).
 #![tactic(auto)]
 
 mod disk;

@@ -1,5 +1,5 @@
 -- What the file of a store has of its book.
-use Rattle.std.proofs.Common.{◌≡◌, ◌≢◌, ◌+◌, ◌-◌, ◌<◌, ◌≤◌, ℕ, zero, suc, List, [], ◌∷◌, ◌++◌, append-nil, append_assoc, length, length-append, take, drop, refl, sym, ◌∙◌, ap, subst, arith}
+use Rattle.std.proofs.Common.{◌≡◌, ◌≢◌, ◌+◌, ◌-◌, ◌*◌, ◌<◌, ◌≤◌, ℕ, zero, suc, List, [], ◌∷◌, ◌++◌, append-nil, append_assoc, length, length-append, take, drop, refl, sym, ◌∙◌, ap, subst, arith}
 use Rattle.std.proofs.lemmas.List.{drop_all, length-drop, take-append-drop, take_all}
 use Rattle.std.proofs.Math.Seq.{drop-append_seam, take-append_seam}
 use Rattle.process_disk.specs.Disk.{Disk}
@@ -89,25 +89,25 @@ pub commit_count : (owed : List Effect) → length (commit_bodies owed) ≤ 1
 commit_count [] = omega arith
 commit_count (e ∷ owed) = omega arith
 
--- A store that is owed nothing stands where its file has its book and what is in doubt,
-pub stands_by : {B : Type 0} (s : Opened B) (disk : Disk) → s.owed ≡ 0 → SomeBodies s.book s.doubt (λ bodies. StandsFor s.log bodies disk) → Stands s disk
-stands_by s disk none stands =
-    let filed = filed_none s.doubt s.owed s.book none in
+-- Where nothing is owed, what is so of the bodies of the book with what is in doubt is so of those that are filed,
+pub bodies_by : (book doubt : List Effect) (n : ℕ) (P : List (List ℕ) → Type 0) → n ≡ 0 → SomeBodies book doubt P → SomeBodies (before_by doubt n book) (owed_by doubt n book ++ doubt) P
+bodies_by book doubt n P none those =
+    let filed = filed_none doubt n book none in
     record {
-      bodies = stands.bodies;
-      of = subst (λ (b : List Effect). AreBodiesOf b (owed_by s.doubt s.owed s.book ++ s.doubt) stands.bodies) (sym filed.0)
-          (subst (λ (o : List Effect). AreBodiesOf s.book (o ++ s.doubt) stands.bodies) (sym filed.1) stands.of);
-      so = stands.so;
+      bodies = those.bodies;
+      of = subst (λ (b : List Effect). AreBodiesOf b (owed_by doubt n book ++ doubt) those.bodies) (sym filed.0)
+          (subst (λ (o : List Effect). AreBodiesOf book (o ++ doubt) those.bodies) (sym filed.1) those.of);
+      so = those.so;
     }
 
--- and then it has
-pub stands_with : {B : Type 0} (s : Opened B) (disk : Disk) → s.owed ≡ 0 → Stands s disk → SomeBodies s.book s.doubt (λ bodies. StandsFor s.log bodies disk)
-stands_with s disk none stands =
-    let filed = filed_none s.doubt s.owed s.book none in
+-- and the other way round
+pub bodies_with : (book doubt : List Effect) (n : ℕ) (P : List (List ℕ) → Type 0) → n ≡ 0 → SomeBodies (before_by doubt n book) (owed_by doubt n book ++ doubt) P → SomeBodies book doubt P
+bodies_with book doubt n P none those =
+    let filed = filed_none doubt n book none in
     record {
-      bodies = stands.bodies;
-      of = subst (λ (b : List Effect). AreBodiesOf b s.doubt stands.bodies) filed.0 (subst (λ (o : List Effect). AreBodiesOf (before_by s.doubt s.owed s.book) (o ++ s.doubt) stands.bodies) filed.1 stands.of);
-      so = stands.so;
+      bodies = those.bodies;
+      of = subst (λ (b : List Effect). AreBodiesOf b doubt those.bodies) filed.0 (subst (λ (o : List Effect). AreBodiesOf (before_by doubt n book) (o ++ doubt) those.bodies) filed.1 those.of);
+      so = those.so;
     }
 
 -- how many bytes the record of a commit has
@@ -120,7 +120,52 @@ pub owed_behind : (doubt : List Effect) (n : ℕ) (book : List Effect) → (doub
 owed_behind [] n book none some = (refl, refl)
 owed_behind (e ∷ doubt) n book none some = absurd (omega (arith, some, none (λ is. absurd cc)))
 
--- where commits are owed for what was in doubt, the file has what it had
+-- where the commit is owed for what was in doubt, the file has what it had
 pub filed_owed : (doubt : List Effect) (n : ℕ) (book : List Effect) → doubt ≢ [] → (before_by [] (length doubt) (book ++ doubt) ≡ before_by doubt n book) × (owed_by [] (length doubt) (book ++ doubt) ++ [] ≡ owed_by doubt n book ++ doubt)
 filed_owed [] n book some = absurd (some refl)
 filed_owed (e ∷ doubt) n book some = (all_before book (e ∷ doubt), append-nil (last_of (length (e ∷ doubt)) (book ++ e ∷ doubt)) ∙ all_owed book (e ∷ doubt))
+
+-- The commit that is owed, whatever is in doubt: it is of the last number of the book,
+pub commit_owed_by : (doubt : List Effect) (n : ℕ) (book : List Effect) (number : ℕ) → (doubt ≢ [] → n ≡ 0) → 0 < n → n ≤ length book → last_number book ≡ number → commit_bodies (owed_by doubt n book) ≡ committed_bytes number ∷ []
+commit_owed_by doubt n book number none some within is = ap commit_bodies (owed_behind doubt n book none some).1 ∙ commit_owed n book number some within is
+
+-- it is there where something is owed,
+pub some_owed_by : (doubt : List Effect) (n : ℕ) (book : List Effect) → (doubt ≢ [] → n ≡ 0) → 0 < n → n ≤ length book → owed_by doubt n book ≢ []
+some_owed_by doubt n book none some within = λ is. some_owed n book some within (sym (owed_behind doubt n book none some).1 ∙ is)
+
+-- and then nothing is in doubt;
+pub settled_where_owed : (doubt : List Effect) (n : ℕ) (book : List Effect) → owed_by doubt n book ≢ [] → doubt ≡ []
+settled_where_owed [] n book some = refl
+settled_where_owed (e ∷ doubt) n book some = absurd (some refl)
+
+-- and a log of few bodies has few with it.
+pub commit_fits : (doubt : List Effect) (n : ℕ) (book : List Effect) (count : ℕ) → (0 < n → count < 2 * length book) → count ≤ 2 * length book + length doubt
+    → count + length (commit_bodies (owed_by doubt n book)) ≤ 2 * length book + length doubt
+commit_fits [] zero book count some most = omega (arith, most, ap length (no_commit book))
+commit_fits [] (suc n) book count some most = omega (arith, some (omega arith), commit_count (last_of (suc n) book))
+commit_fits (e ∷ doubt) n book count some most = omega (arith, most)
+
+-- where the commit is owed for what was in doubt, the file has what it had
+pub filed_as_before : (book doubt : List Effect) (n : ℕ) (new_book new_doubt : List Effect) (new_n : ℕ) → doubt ≢ [] → new_book ≡ book ++ doubt → new_doubt ≡ [] → new_n ≡ length doubt
+    → (before_by new_doubt new_n new_book ≡ before_by doubt n book) × (owed_by new_doubt new_n new_book ++ new_doubt ≡ owed_by doubt n book ++ doubt)
+filed_as_before book doubt n new_book new_doubt new_n some is_book is_doubt is_n =
+    let filed = filed_owed doubt n book some in (
+      ap (λ (d : List Effect). before_by d new_n new_book) is_doubt ∙ ap (λ k. before_by [] k new_book) is_n ∙ ap (λ (b : List Effect). before_by [] (length doubt) b) is_book ∙ filed.0,
+      ap (λ (d : List Effect). owed_by d new_n new_book ++ d) is_doubt ∙ ap (λ k. owed_by [] k new_book ++ []) is_n ∙ ap (λ (b : List Effect). owed_by [] (length doubt) b ++ []) is_book ∙ filed.1,
+    )
+
+-- What is filed, with bodies staged behind it: the commit that is owed, if one is,
+pub bodies_paid : (doubt : List Effect) (n : ℕ) (book : List Effect) (bodies : List (List ℕ)) → AreBodiesOf (before_by doubt n book) (owed_by doubt n book ++ doubt) bodies
+    → AreBodiesOf book doubt (bodies ++ commit_bodies (owed_by doubt n book))
+bodies_paid [] n book bodies of =
+    subst (λ (b : List Effect). AreBodiesOf b [] (bodies ++ commit_bodies (owed_by [] n book))) (before_and_owed [] n book)
+    (bodies_filed (before_by [] n book) (owed_by [] n book) bodies (subst (λ (d : List Effect). AreBodiesOf (before_by [] n book) d bodies) (append-nil (owed_by [] n book)) of))
+bodies_paid (e ∷ doubt) n book bodies of = subst (AreBodiesOf book (e ∷ doubt)) (sym (append-nil bodies)) of
+
+-- and that before effects that are prepared
+pub bodies_next : (doubt : List Effect) (n : ℕ) (book effects : List Effect) (bodies : List (List ℕ)) → doubt ≡ [] → AreBodiesOf (before_by doubt n book) (owed_by doubt n book ++ doubt) bodies
+    → AreBodiesOf book effects (bodies ++ (commit_bodies (owed_by doubt n book) ++ prepared_bodies effects))
+bodies_next [] n book effects bodies settled of =
+    subst (λ (b : List Effect). AreBodiesOf b effects (bodies ++ (commit_bodies (owed_by [] n book) ++ prepared_bodies effects))) (before_and_owed [] n book)
+    (bodies_with_next (before_by [] n book) (owed_by [] n book) effects bodies (subst (λ (d : List Effect). AreBodiesOf (before_by [] n book) d bodies) (append-nil (owed_by [] n book)) of))
+bodies_next (e ∷ doubt) n book effects bodies settled of = absurd (let no : e ∷ doubt ≡ [] = settled in cc)

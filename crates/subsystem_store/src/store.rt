@@ -274,6 +274,13 @@ impl<B: Resource> Store<B> {
         ensures opened { Told (R.disk rack.old) → OnOk result (HasOpened self.now (R.disk rack.new)) }
         ensures any_moment { Told (R.disk rack.old)
             → EachImage (R.disk rack.new) (R.disk rack.old).moment (IsBeforeOrWith self.now) }
+        ensures prepared { Told (R.disk rack.old) → (effects : List Effect) → self.now.doubt ≡ []
+            → self.now.log.staged ≡ commit_bodies (owed_of self.now) ++ prepared_bodies effects →
+            EachImage (R.disk rack.new) (R.disk rack.old).moment
+            (IsStoreOfEither self.now.log.file (filed_book self.now, filed_doubt self.now) (self.now.book, effects)) }
+        ensures committed { Told (R.disk rack.old) → self.now.log.staged ≡ commit_bodies (owed_of self.now) →
+            EachImage (R.disk rack.new) (R.disk rack.old).moment
+            (IsStoreOfEither self.now.log.file (filed_book self.now, filed_doubt self.now) (self.now.book, self.now.doubt)) }
         ensures others { Told (R.disk rack.old) → OthersAsBefore self.now.log.file (R.disk rack.old) (R.disk rack.new) }
         ensures rack { LeavesRack R.Rack rack.old rack.new (IsErr result) }
     {
