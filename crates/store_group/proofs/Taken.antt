@@ -14,7 +14,7 @@ use Rattle.subsystem_store.specs.Order.{MayFollowEach, most_effects}
 use Rattle.subsystem_store.specs.Room.{HasRoom}
 use Rattle.subsystem_store.specs.Opened.{Account, Fits, IsStoreOfEither, Opened, Stands, account_of, before_by, filed_book, filed_doubt, owed_by, owed_of}
 use Rattle.subsystem_store.specs.Staged.{IsBeforeOrWith}
-use Rattle.subsystem_store.proofs.Filed.{before_and_owed, bodies_filed, bodies_with_next, filed_none}
+use Rattle.subsystem_store.proofs.Filed.{bodies_next, bodies_paid, filed_none}
 use Rattle.store_group.specs.Events.{AreBeforeOrPaid, AreBeforeOrPrepared, BecomeEach, IsPaid, IsPrepared, IsUnchanged, MayPrepare, MayPrepareEach, MayTake, MayTakeCommit, MayTakeEach, OwesCommit, StagesCommit, StagesEffects, TakesCommit, TakesEffects, effects_for, filed_with, left_owed, next_bodies, taking}
 use Rattle.store_group.specs.Groups.{AllStand, AreBeforeOrWith, AreInOrder, HasStaged, OfEach, SameButStores}
 use Rattle.store_group.proofs.InOrder.{become_then, of_became, of_was, of_was_at}
@@ -91,20 +91,11 @@ either_staged {B} more s t book doubt files is adds either =
 -- the bodies with effects prepared, if there are some,
 pub adds_effects : {B : Type 0} (effects : List Effect) (s : Opened B) → (effects ≢ [] → s.doubt ≡ []) → Adds (filed_book s) (filed_doubt s) (next_bodies effects s) (filed_with effects s).0 (filed_with effects s).1
 adds_effects [] s settled bodies of = subst (AreBodiesOf (filed_book s) (filed_doubt s)) (sym (append-nil bodies)) of
-adds_effects (e ∷ effects) s settled bodies of =
-    let alone : filed_doubt s ≡ owed_of s = ap (λ (d : List Effect). owed_of s ++ d) (settled (λ none. cc)) ∙ append-nil (owed_of s) in
-    subst (λ (b : List Effect). AreBodiesOf b (e ∷ effects) (bodies ++ (commit_bodies (owed_of s) ++ prepared_bodies (e ∷ effects)))) (before_and_owed s.doubt s.owed s.book)
-    (bodies_with_next (filed_book s) (owed_of s) (e ∷ effects) bodies (subst (λ (d : List Effect). AreBodiesOf (filed_book s) d bodies) alone of))
+adds_effects (e ∷ effects) s settled bodies of = bodies_next s.doubt s.owed s.book (e ∷ effects) bodies (settled (λ none. cc)) of
 
 -- and with the commit that is owed, if one is
-paid : (doubt : List Effect) (n : ℕ) (book : List Effect) → Adds (before_by doubt n book) (owed_by doubt n book ++ doubt) (commit_bodies (owed_by doubt n book)) book doubt
-paid [] n book bodies of =
-    subst (λ (b : List Effect). AreBodiesOf b [] (bodies ++ commit_bodies (owed_by [] n book))) (before_and_owed [] n book)
-    (bodies_filed (before_by [] n book) (owed_by [] n book) bodies (subst (λ (d : List Effect). AreBodiesOf (before_by [] n book) d bodies) (append-nil (owed_by [] n book)) of))
-paid (e ∷ doubt) n book bodies of = subst (AreBodiesOf book (e ∷ doubt)) (sym (append-nil bodies)) of
-
 pub adds_commit : {B : Type 0} (s : Opened B) → Adds (filed_book s) (filed_doubt s) (commit_bodies (owed_of s)) s.book s.doubt
-adds_commit s = paid s.doubt s.owed s.book
+adds_commit s bodies of = bodies_paid s.doubt s.owed s.book bodies of
 
 -- the log behind what is staged, if anything is
 abbrev pub behind : List (List ℕ) → LogState → LogState

@@ -2,12 +2,10 @@
 use Rattle.std.proofs.Common.{◌≡◌, ◌≢◌, ◌+◌, ◌-◌, ◌*◌, ◌<◌, ◌≤◌, ℕ, zero, suc, List, [], ◌∷◌, ◌++◌, append-nil, append_assoc, length, length-append, take, drop, refl, sym, ◌∙◌, ap, subst, arith}
 use Rattle.std.proofs.lemmas.List.{drop_all, length-drop, take-append-drop, take_all}
 use Rattle.std.proofs.Math.Seq.{drop-append_seam, take-append_seam}
-use Rattle.process_disk.specs.Disk.{Disk}
 use Rattle.gate_log.specs.LogFile.{records_size}
-use Rattle.gate_log.specs.Standing.{StandsFor}
 use Rattle.subsystem_store.specs.declared.effect.Effect.{Effect}
 use Rattle.subsystem_store.specs.Bodies.{AreBodiesOf, SomeBodies, commit_bodies, committed_bytes, last_number, prepared_bodies}
-use Rattle.subsystem_store.specs.Opened.{Opened, Stands, before_by, before_last, last_of, owed_by}
+use Rattle.subsystem_store.specs.Opened.{before_by, before_last, last_of, owed_by}
 use Rattle.subsystem_store.proofs.StoreFiles.{bodies_committed, bodies_prepared}
 
 -- where nothing is owed it has all of the book,

@@ -11,7 +11,7 @@ invariant_of-self g c =
     let s = c.self.inside in
     let some = subst (λ (t : Opened g.row.B.Denot). owed_of t ≢ []) (sym c.self.view_is) c.requires.owed in
     let settled = settled_where_owed s.account.doubt s.owed s.account.book some in
-    let staged : s.log.staged ≡ commit_bodies (owed_by s.account.doubt s.owed s.account.book) = rw (c.self.view_is) c.requires.staged in
+    let staged : s.log.staged ≡ commit_bodies (owed_by s.account.doubt s.owed s.account.book) = subst (λ (t : Opened g.row.B.Denot). t.log.staged ≡ commit_bodies (owed_of t)) (sym c.self.view_is) c.requires.staged in
     let fits = commit_fits s.account.doubt s.owed s.account.book s.log.count was.2 was.3 in (
       omega arith,
       λ some. refl,

@@ -2,7 +2,7 @@ use Rattle.std.proofs.Common.{◌≡◌, ◌*◌, ◌++◌, [], List, length, le
 use Rattle.gate_log.specs.Standing.{LogState, CanRetract, CanRetractLast}
 use Rattle.subsystem_store.specs.declared.effect.Effect.{Effect}
 use Rattle.subsystem_store.specs.Bodies.{commit_bodies, prepared_bodies}
-use Rattle.subsystem_store.specs.Opened.{Opened, owed_by}
+use Rattle.subsystem_store.specs.Opened.{Opened, owed_by, owed_of}
 use Rattle.subsystem_store.proofs.Filed.{commit_fits}
 use Rattle.subsystem_store.proofs.StoreFiles.{prepared_can_go, prepared_count}
 use Rattle.subsystem_store.proofs.store.Store.take_prepared.Goals as goal
@@ -14,7 +14,7 @@ invariant_of-self g c =
     let effects = c.args.effects.now in
     let commit = commit_bodies (owed_by s.account.doubt s.owed s.account.book) in
     let settled = ap (λ (s : Opened g.row.B.Denot). s.doubt) c.self.view_is ∙ c.requires.settled in
-    let staged : s.log.staged ≡ commit ++ prepared_bodies effects = rw (c.self.view_is) c.requires.staged in
+    let staged : s.log.staged ≡ commit ++ prepared_bodies effects = subst (λ (t : Opened g.row.B.Denot). t.log.staged ≡ commit_bodies (owed_of t) ++ prepared_bodies effects) (sym c.self.view_is) c.requires.staged in
     let held = c.hold_each.ensures in
     let doubt : c.hold_each.new.self.doubt ≡ effects = held.doubt ∙ ap (λ (d : List Effect). d ++ effects) settled in
     let fits = commit_fits s.account.doubt s.owed s.account.book s.log.count was.2 was.3 in
