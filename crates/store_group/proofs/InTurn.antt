@@ -10,7 +10,7 @@ use Rattle.gate_log.specs.LogFile.{IsLog}
 use Rattle.gate_log.proofs.Standing.{stands_still}
 use Rattle.gate_log.proofs.StagedImages.{each_file_over, written_still, on_disk_still, opened_still}
 use Rattle.subsystem_store.specs.Bodies.{SomeBodies}
-use Rattle.subsystem_store.specs.Opened.{Opened, Stands}
+use Rattle.subsystem_store.specs.Opened.{Opened, Stands, filed_book, filed_doubt}
 use Rattle.store_group.specs.Groups.{AreInOrder, OfEach, SameButStores, HasWritten, HasOnDisk, IsOpenAt}
 
 -- a run on one of the stores leaves all files but theirs,
