@@ -147,7 +147,7 @@ next_alike [] s t same = refl
 next_alike (e ∷ effects) s t same = ap (λ (owed : List Effect). commit_bodies owed ++ prepared_bodies (e ∷ effects)) same
 
 -- what is staged for some effects
-next_of : {B : Type 0} (effects : List Effect) (s : Opened B) → effects ≢ [] → next_bodies effects s ≡ commit_bodies (owed_of s) ++ prepared_bodies effects
+pub next_of : {B : Type 0} (effects : List Effect) (s : Opened B) → effects ≢ [] → next_bodies effects s ≡ commit_bodies (owed_of s) ++ prepared_bodies effects
 next_of [] s some = absurd (some refl)
 next_of (e ∷ effects) s some = refl
 
