@@ -5,7 +5,7 @@ use Rattle.process_disk.specs.Disk.{Disk, FileSet}
 use Rattle.process_disk.specs.Images.{RunBy}
 use Rattle.process_disk.proofs.Images.{run_so}
 use Rattle.gate_log.specs.Standing.{LogState, StandsFor}
-use Rattle.gate_log.specs.Staging.{LogsBeforeOrWithAll, with_staged}
+use Rattle.gate_log.specs.Staging.{LogsBeforeOrWithAll, staging_all, unstaged, with_staged}
 use Rattle.gate_log.proofs.Standing.{stands_alike}
 use Rattle.resource_box.specs.declared.resource.Resource.{Ghosts as Resources}
 use Rattle.subsystem_store.specs.declared.effect.Effect.{Effect}
@@ -150,6 +150,40 @@ next_alike (e ∷ effects) s t same = ap (λ (owed : List Effect). commit_bodies
 pub next_of : {B : Type 0} (effects : List Effect) (s : Opened B) → effects ≢ [] → next_bodies effects s ≡ commit_bodies (owed_of s) ++ prepared_bodies effects
 next_of [] s some = absurd (some refl)
 next_of (e ∷ effects) s some = refl
+
+-- What the calls of one store come to: effects are staged, where there are some,
+pub stages_some : {B : Type 0} (effects : List Effect) (s t : Opened B) → effects ≢ [] → t.log ≡ staging_all (unstaged s.log) (commit_bodies (owed_of s) ++ prepared_bodies effects) → account_of t ≡ account_of s → t.owed ≡ s.owed
+    → StagesEffects effects s t
+stages_some effects s t some log account owed = record {
+  log = log ∙ ap (λ (bodies : List (List ℕ)). staging_all (unstaged s.log) bodies) (sym (next_of effects s some));
+  account = account;
+  owed = owed;
+}
+
+-- a store in which nothing is in doubt owes no commit more,
+pub owes_none : {B : Type 0} (s : Opened B) → s.doubt ≡ [] → OwesCommit s s
+owes_none s none = record {
+  log = refl;
+  kind = refl;
+  book = sym (ap (λ (d : List Effect). s.book ++ d) none ∙ append-nil s.book);
+  doubt = none;
+  filed_book = refl;
+  filed_doubt = refl;
+  none = λ same. refl;
+}
+
+-- and one that owes none has none to take,
+pub takes_none : {B : Type 0} (s : Opened B) → s.owed ≡ 0 → TakesCommit s s
+takes_none s none = record {
+  log = ap (λ (owed : List Effect). taking owed s.log) (sym (filed_none s.doubt s.owed s.book none).1);
+  account = refl;
+  owed = none;
+}
+
+-- as one that owes some has
+pub taking_some : (effects : List Effect) (log : LogState) → effects ≢ [] → with_staged log ≡ taking effects log
+taking_some [] log some = absurd (some refl)
+taking_some (e ∷ effects) log some = refl
 
 -- What is asked of staged effects that are taken.
 pub may_take : {B : Type 0} (s t : Opened B) (effects : List Effect) → effects ≢ [] → MayPrepare s effects → Stages (next_bodies effects s) s t → MayTake t effects
