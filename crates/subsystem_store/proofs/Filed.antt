@@ -3,8 +3,6 @@ use Rattle.std.proofs.Common.{◌≡◌, ◌≢◌, ◌+◌, ◌-◌, ◌*◌, �
 use Rattle.std.proofs.lemmas.List.{drop_all, length-drop, take-append-drop, take_all}
 use Rattle.std.proofs.Math.Seq.{drop-append_seam, take-append_seam}
 use Rattle.gate_log.specs.LogFile.{records_size}
-use Rattle.gate_log.specs.Staging.{staging, staging_all, unstaged}
-use Rattle.gate_log.specs.Standing.{LogState}
 use Rattle.subsystem_store.specs.declared.effect.Effect.{Effect}
 use Rattle.subsystem_store.specs.Bodies.{AreBodiesOf, SomeBodies, commit_bodies, committed_bytes, last_number, prepared_bodies}
 use Rattle.subsystem_store.specs.Opened.{before_by, before_last, last_of, owed_by}
@@ -169,11 +167,3 @@ bodies_next [] n book effects bodies settled of =
     subst (λ (b : List Effect). AreBodiesOf b effects (bodies ++ (commit_bodies (owed_by [] n book) ++ prepared_bodies effects))) (before_and_owed [] n book)
     (bodies_with_next (before_by [] n book) (owed_by [] n book) effects bodies (subst (λ (d : List Effect). AreBodiesOf (before_by [] n book) d bodies) (append-nil (owed_by [] n book)) of))
 bodies_next (e ∷ doubt) n book effects bodies settled of = absurd (let no : e ∷ doubt ≡ [] = settled in cc)
-
--- What is staged of a commit: nothing where nothing is owed,
-pub none_staged : (log : LogState) (doubt : List Effect) (n : ℕ) (book : List Effect) → n ≡ 0 → unstaged log ≡ staging_all (unstaged log) (commit_bodies (owed_by doubt n book))
-none_staged log doubt n book is = ap (λ (owed : List Effect). staging_all (unstaged log) (commit_bodies owed)) (sym (filed_none doubt n book is).1)
-
--- and else its record
-pub one_staged : (log : LogState) (owed : List Effect) (number : ℕ) → commit_bodies owed ≡ committed_bytes number ∷ [] → staging (unstaged log) (committed_bytes number) ≡ staging_all (unstaged log) (commit_bodies owed)
-one_staged log owed number is = ap (λ (bodies : List (List ℕ)). staging_all (unstaged log) bodies) (sym is)
