@@ -1,13 +1,11 @@
 -- Own order, said of the names of effects: a step that goes on was never done, and one that is undone next is done and stands.
-use Rattle.std.proofs.Common.{◌≡◌, ◌≢◌, ◌⊎◌, inl, inr, ⊎_elim, ℕ, zero, suc, Bool, true, false, not, if◌then◌else◌, ◌&&◌, ◌||◌, eqb, ltb, List, [], ◌∷◌, ◌++◌, drop, filter, find, Some, IfSome, sym, refl, ap, subst, ◌∙◌, append-nil, arith}
+use Rattle.std.proofs.Common.{◌≡◌, ◌≢◌, ◌⊎◌, inl, inr, ⊎_elim, ℕ, zero, suc, Bool, true, false, not, if◌then◌else◌, ◌&&◌, ◌||◌, eqb, ltb, List, [], ◌∷◌, ◌++◌, drop, filter, Some, IfSome, sym, refl, ap, subst, ◌∙◌, append-nil, arith}
 use Rattle.std.specs.Bool.{IsTrue}
 use Rattle.std.specs.List.{list_all, list_any}
-use Rattle.std.proofs.lemmas.Option.{none-some, same_Some}
 use Rattle.std.proofs.lemmas.Bool.{and_from, and_parts, eq-eqb, eqb-true, false≢true, ltb-true, or_cases}
 use Rattle.process_tree.specs.declared.entry.Entry.{Entry}
 use Rattle.process_tree.specs.Entries.{access_of}
 use Rattle.process_tree.specs.Conflicts.{same_access}
-use Rattle.process_tree.specs.Order.{Each}
 use Rattle.process_tree.specs.Shape.{fixed_len, goes_on_to}
 use Rattle.schedule_model.specs.declared.event.Event.{Event}
 use Rattle.schedule_model.specs.declared.event.Event.TheVariants.{Start, Act, End}
@@ -34,6 +32,7 @@ use Rattle.machine_model.proofs.OwnOrder.{run-own_order}
 use Rattle.machine_model.proofs.OwnOrderLaws.{next_keeps_own_order}
 use Rattle.machine_model.proofs.RunningNext.{running_is_next}
 use Rattle.machine_model.proofs.StateSteps.{same_is}
+use Rattle.machine_model.proofs.TidyMoments.{Each-find}
 use Rattle.exactly_once.specs.Names.{Name, Do, Undo, has, same_name}
 use Rattle.exactly_once.specs.Settling.{Answer, Done, NoStep, NotDone, Undone, Unknown}
 use Rattle.exactly_once.specs.Laws.{InOrder}
@@ -220,14 +219,6 @@ in_order courses h legal = by_events (may_come no_conflict courses) (λ h. InOrd
         subst (λ es. InOrder (names_before [] es)) (sym (acts-append h (e ∷ [])))
         (by_event h e (and_parts (keeps_order courses h e) (is_clear no_conflict courses h e) may).0 order)
 
-found_holds : (P : Piece → Type 0) (q : Piece → Bool) (ps : List Piece) (p : Piece) → Each P ps → find q ps ≡ Some p → P p
-found_holds P q [] p each is = absurd (none-some p is)
-found_holds P q (x ∷ ps) p each is = by_test (q x) is (found_holds P q ps p each.1)
-  where
-    by_test : (t : Bool) → (if t then Some x else find q ps) ≡ Some p → (find q ps ≡ Some p → P p) → P p
-    by_test true is rest = subst P (same_Some x p is) each.0
-    by_test false is rest = rest is
-
 pub sessions_keep_order : SessionsKeepOrder
 sessions_keep_order table plans s session = record { effects = order; out = out }
   where
@@ -237,7 +228,7 @@ sessions_keep_order table plans s session = record { effects = order; out = out 
     out : (i : ℕ) (p : Piece) → running_of (now table s) i ≡ Some p
         → IfSome (work_name p.process p.step p.work) (λ n. IsTrue (may_follow (names_of (history table s)) n))
     out i p running =
-        let active' = found_holds (λ p. is_active (history table s) p.process ≡ true) (λ p. eqb p.process i) (now table s).out p
+        let active' = Each-find (λ p. is_active (history table s) p.process ≡ true) (λ p. eqb p.process i) (now table s).out p
         (run-own_order table plans session.good s session.courses session.legal session.run).active running in
         let own : p.process ≡ i = eqb-true p.process i (find-passes (λ p. eqb p.process i) (now table s).out p running) in
         let next : Task = next_of s.courses (now table s) i in
