@@ -10,7 +10,8 @@ use Rattle.journal_records.specs.declared.record.Record.{Record}
 use Rattle.process_journal.specs.Bodies.{journal_bodies, with_event}
 use Rattle.process_journal.specs.Journals.{AreMadeBy}
 use Rattle.process_journal.specs.Staged.{IsOnDisk}
-use Rattle.history_files.specs.Groups.{GroupsAreSettled, GroupsComeTo, HasEachDoubt}
+use Rattle.history_files.specs.Effects.{effects}
+use Rattle.history_files.specs.Groups.{GroupsAreSettled, GroupsComeTo, HasEachDoubt, OwesNothing}
 use Rattle.process_tree.specs.Order.{Each}
 use Rattle.schedule_model.specs.declared.event.Event.{Event}
 use Rattle.schedule_model.specs.declared.event.Event.TheVariants.{Start, Act, End}
@@ -19,7 +20,8 @@ use Rattle.commute_table.specs.declared.catalog.Catalog.{Catalog}
 use Rattle.schedule_model.specs.declared.history.History.{History}
 use Rattle.subsystem_store.specs.declared.effect.Effect.{Effect}
 use Rattle.subsystem_store.specs.Opened.{Opened}
-use Rattle.store_group.specs.Events.{BecomeEach, IsCommitted, IsPrepared, effects_for}
+use Rattle.store_group.specs.Events.{BecomeEach, IsPaid, IsPrepared, OwesCommit, effects_for}
+use Rattle.store_group.proofs.InOrder.{of_became}
 use Rattle.process_core.specs.Cores.{CoreState}
 use Rattle.history_files.specs.Standing.{AreGoodBooks, ComeTo, FilesState, Stand}
 use Rattle.engine_steps.specs.Engines.{AreAtRest, EngineState, full_history}
@@ -147,8 +149,8 @@ module _ {R B : Type 0} (e : EngineState R B) (disk : Disk) (group : List (List 
   pub has_each : GroupsComeTo B → HasEachDoubt e.catalog.ops h e.files.stores
   has_each law = let d = recorded.doubt in (law e.catalog.ops (full_history e.core) h group d.settled e.files.stores recorded.adds d.before d.became).1
 
-  -- committed, the files are at rest for it
-  pub group_committed : GroupsAreSettled B → (files : FilesState R B) (later : Disk) → BecomeEach (λ q s t. IsCommitted s t) e.files.stores files.stores → files.journal ≡ e.files.journal
+  -- committed in memory, the files are at rest for it
+  pub group_committed : GroupsAreSettled B → (files : FilesState R B) (later : Disk) → BecomeEach (λ q s t. OwesCommit s t) e.files.stores files.stores → files.journal ≡ e.files.journal
       → AreGoodBooks files.stores → (Told later → Stand e.catalog h files.journal files.stores later)
       → IsGroupCommitted (record { core = e.core; catalog = e.catalog; files = files; phase = e.phase }) later h
   group_committed law files later became journal good stand =
@@ -158,6 +160,21 @@ module _ {R B : Type 0} (e : EngineState R B) (disk : Disk) (group : List (List 
         phase = recorded.phase;
         rest = record { count = ap (λ l. l.count) journal ∙ recorded.count; none = λ q s at. (are q s at).0; books = λ q s at. (are q s at).1; good = good; stand = stand };
       }
+
+-- files at rest stay so where the commits that are owed are written
+pub rest_paid : {R B : Type 0} (c : Catalog) (h : History) (old new : FilesState R B) (before after : Disk) → AreAtRest c h old before → BecomeEach (λ q s t. IsPaid s t) old.stores new.stores → new.journal ≡ old.journal
+    → AreGoodBooks new.stores → (Told after → Stand c h new.journal new.stores after) → AreAtRest c h new after
+rest_paid c h old new before after rest became journal good stand = record {
+  count = ap (λ l. l.count) journal ∙ rest.count;
+  none = of_became _ (λ q t. t.doubt ≡ []) old.stores new.stores became (λ q s t at by. ap (λ a. a.doubt) by.account ∙ rest.none q s at);
+  books = of_became _ (λ q t. t.book ≡ effects c.ops h q) old.stores new.stores became (λ q s t at by. ap (λ a. a.book) by.account ∙ rest.books q s at);
+  good = good;
+  stand = stand;
+}
+
+-- and then no file is owed a commit
+pub owes_nothing : {B : Type 0} (old new : List (Opened B)) → BecomeEach (λ q s t. IsPaid s t) old new → OwesNothing new
+owes_nothing old new became = of_became _ (λ q t. t.owed ≡ 0) old new became (λ q s t at by. by.owed)
 
 -- what is under way isn't settled
 pub not_both : (x : Phase) → x ≡ phase.UnderWay → x ≡ phase.Settled → ⊥

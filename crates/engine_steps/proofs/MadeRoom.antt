@@ -1,16 +1,17 @@
 -- Files in whose stores only the room changed.
 use Rattle.process_journal.specs.Opened.{Stands as JournalStands}
-use Rattle.std.proofs.Common.{◌≡◌, ◌∙◌, ◌<◌, ℕ, Bool, List, [], Some, ap, sym, subst}
+use Rattle.std.proofs.Common.{◌≡◌, ◌∙◌, ◌<◌, ℕ, Bool, List, [], ◌++◌, Some, ap, sym, subst}
 use Rattle.std.specs.List.{Contains, slice_get}
 use Rattle.std.proofs.lemmas.List.Elements.{Contains-push}
 use Rattle.process_disk.specs.Disk.{Disk}
-use Rattle.gate_log.specs.Standing.{StandsFor}
+use Rattle.gate_log.specs.Standing.{LogState, StandsFor}
 use Rattle.process_tree.specs.declared.entry.Entry.{Entry}
 use Rattle.schedule_model.specs.declared.history.History.{History}
 use Rattle.commute_table.specs.declared.catalog.Catalog.{Catalog}
 use Rattle.subsystem_store.specs.Bodies.{SomeBodies}
 use Rattle.subsystem_store.specs.Laws.{IsGoodBook}
-use Rattle.subsystem_store.specs.Opened.{Opened, Stands}
+use Rattle.subsystem_store.specs.declared.effect.Effect.{Effect}
+use Rattle.subsystem_store.specs.Opened.{Opened, Stands, before_by, owed_by}
 use Rattle.history_files.specs.Effects.{effects, subsystem_of}
 use Rattle.history_files.specs.Laws.{next_effect}
 use Rattle.history_files.specs.Rooms.{AddsRoom, HasRoomAt, MakesRoom}
@@ -34,11 +35,16 @@ still_each P q old new keeps changes each =
     subst (λ ss. (k : ℕ) (s : _) → slice_get ss k ≡ Some s → P k s) (sym changes.is)
     (set_each P old q changes.after (keeps changes.before changes.after changes.by (each q changes.before changes.at)) (λ k s other at. each k s at))
 
+-- that a store stands, by its log, its book, what is in doubt and how many are owed
+abbrev StandsBy : Disk → LogState → List Effect → List Effect → ℕ → Type 0
+StandsBy disk log book doubt n = SomeBodies (before_by doubt n book) (owed_by doubt n book ++ doubt) (λ bodies. StandsFor log bodies disk)
+
 module _ {B : Type 0} (q : ℕ) (c : Catalog) (h : History) where
   stands_roomy : (disk : Disk) (s t : Opened B) → MakesRoom s t → Stands s disk → Stands t disk
   stands_roomy disk s t room stands =
-      subst (λ l. SomeBodies t.book t.doubt (λ bodies. StandsFor l bodies disk)) (sym room.log)
-      (subst (λ b. SomeBodies b t.doubt (λ bodies. StandsFor s.log bodies disk)) (sym room.book) (subst (λ d. SomeBodies s.book d (λ bodies. StandsFor s.log bodies disk)) (sym room.doubt) stands))
+      subst (λ l. StandsBy disk l t.book t.doubt t.owed) (sym room.log)
+      (subst (λ b. StandsBy disk s.log b t.doubt t.owed) (sym room.book)
+      (subst (λ d. StandsBy disk s.log s.book d t.owed) (sym room.doubt) (subst (λ n. StandsBy disk s.log s.book s.doubt n) (sym room.owed) stands)))
 
   good_roomy : (s t : Opened B) → MakesRoom s t → IsGoodBook s.kind s.book s.doubt → IsGoodBook t.kind t.book t.doubt
   good_roomy s t room good =

@@ -8,7 +8,7 @@ use Rattle.process_core.specs.Cores.{CoreState, opened_on}
 use Rattle.process_journal.specs.Bodies.{no_history}
 use Rattle.process_journal.specs.Journals.{IsHistoryUnder}
 use Rattle.process_journal.proofs.BodiesPushed.{none_is_good}
-use Rattle.history_files.specs.Standing.{AtEach, FilesState, Stand}
+use Rattle.history_files.specs.Standing.{AreUnused, FilesState, Stand}
 use Rattle.engine_steps.specs.Engines.{AreAtRest, IsUnder, full_history}
 
 -- its history has no event
@@ -23,7 +23,7 @@ new_under c core is catalog = record {
 }
 
 -- and its files are at rest
-pub rest_unused : {R B : Type 0} → EmptyIsGood → (c : Catalog) (files : FilesState R B) (disk : Disk) → files.journal.count ≡ 1 → AtEach (λ q s. (s.book ≡ []) × (s.doubt ≡ [])) files.stores
+pub rest_unused : {R B : Type 0} → EmptyIsGood → (c : Catalog) (files : FilesState R B) (disk : Disk) → files.journal.count ≡ 1 → AreUnused files.stores
     → (Told disk → Stand c no_history files.journal files.stores disk) → AreAtRest c no_history files disk
 rest_unused law c files disk one unused stand = record {
   count = one;

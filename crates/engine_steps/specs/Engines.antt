@@ -9,6 +9,7 @@ use Rattle.process_journal.specs.Journals.{IsHistoryUnder}
 use Rattle.process_journal.specs.Opened.{IsJournalOf}
 use Rattle.process_core.specs.Cores.{CoreState, history_of, opened_on}
 use Rattle.history_files.specs.Effects.{effects}
+use Rattle.history_files.specs.Groups.{OwesNothing}
 use Rattle.history_files.specs.Standing.{AtEach, FilesState, Stand}
 use Rattle.engine_steps.specs.declared.engines.Phase.{Phase}
 use Rattle.engine_steps.specs.declared.engines.Closed.{Closed}
@@ -49,11 +50,12 @@ pub record AreExactly (c : Catalog) (h : History) (files : FileSet) : Type 0 whe
 abbrev pub with_core : {R B : Type 0} → EngineState R B → CoreState → EngineState R B
 with_core e core = record { core = core; catalog = e.catalog; files = e.files; phase = e.phase }
 
--- An engine in which nothing has happened under this catalog.
+-- An engine in which nothing has happened under this catalog; no file is owed a commit.
 pub record IsNew {R B : Type 0} (c : Catalog) (e : EngineState R B) : Type 0 where
   pub core : e.core ≡ opened_on c.conflicts [] []
   pub catalog : e.catalog ≡ c
   pub phase : e.phase ≡ phase.Settled
+  pub owes : OwesNothing e.files.stores
 
 -- a refusal because the engine is closed tells how many events it has kept
 pub record IsClosed {R B : Type 0} (e : EngineState R B) (refusal : Closed) : Type 0 where

@@ -12,15 +12,17 @@ use Rattle.history_opening.specs.Opening.{IsDueToOpening}
 use Rattle.process_journal.specs.Bodies.{no_history}
 use Rattle.history_files.specs.Creating.{first_used, IsDueToFiles, AreLeftUnmade}
 use Rattle.history_files.specs.declared.faults.CreateError.{CreateError}
+use Rattle.history_files.specs.Groups.{OwesNothing}
 use Rattle.history_files.specs.Sound.{IsSound}
 use Rattle.history_files.specs.Standing.{FilesState}
 use Rattle.engine_steps.specs.Engines.{EngineState, full_history}
 use Rattle.engine_steps.specs.declared.engines.Phase.TheVariants as phase
 
--- An engine that was opened on its history: nothing was kept since, and nothing is under way.
+-- An engine that was opened on its history: nothing was kept since, nothing is under way, and no file is owed a commit.
 pub record IsOpened {R B : Type 0} (e : EngineState R B) : Type 0 where
   pub core : e.core ≡ opened_on e.catalog.conflicts e.core.plans (history_of e.core)
   pub phase : e.phase ≡ phase.Settled
+  pub owes : OwesNothing e.files.stores
 
 -- An engine on these files, with this catalog and this history.
 pub record IsOn {R B : Type 0} (c : Catalog) (h : History) (f : FilesState R B) (e : EngineState R B) : Type 0 where

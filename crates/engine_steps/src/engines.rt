@@ -7,6 +7,7 @@ ghost use Rattle.schedule_model.specs.Limits.{entries, most_active, most_entries
 ghost use Rattle.process_core.specs.Cores.{IsCore, IsHandedBy, began_in, courses_in, history_of, moment_of};
 ghost use Rattle.machine_model.specs.Pieces.{state_of};
 ghost use Rattle.process_core.specs.Moments.{undo_next_in};
+ghost use Rattle.history_files.specs.Groups.{OwesNothing};
 ghost use Rattle.history_files.specs.Sound.{IsSound};
 ghost use Rattle.engine_steps.specs.Engines.{AreAtRest, AreExactly, IsClosed, IsUnder, full_history};
 ghost use Rattle.engine_steps.specs.declared.engines.Phase.TheVariants as phase;
@@ -23,7 +24,7 @@ use std::marker::Model;
 /// What goes on in an engine.
 #[derive(Clone, Copy, Debug, PartialEq, Eq)]
 pub enum Phase {
-    /// Nothing: every event is recorded, and its effect committed.
+    /// Nothing: every event is recorded, and its effect committed, though a file may be owed the commit.
     Settled,
     /// A piece is prepared or recorded, and not settled yet.
     UnderWay,
@@ -67,7 +68,7 @@ impl<R: Rack + Drop, B: Drop> Model for Engine<R, B> {
 impl<R: Rack + Drop, B: Drop> Engine<R, B> {
     /// Does nothing. It says of its engine what the invariant promises: its core is a run of the machine under its catalog; while
     /// nothing is under way, its files are sound for the history, each image of them from now on is, and each book is the effects
-    /// of the history, on the files and in each image too.
+    /// of the history; where no file is owed a commit it is so on the files and in each image too.
     pub fn invariant_holds(&self)
         ensures run { IsCore self.now.core }
         ensures under { IsUnder self.now.catalog self.now.core }
@@ -78,9 +79,9 @@ impl<R: Rack + Drop, B: Drop> Engine<R, B> {
         ensures each { self.now.phase ≡ phase.Settled → Told (R.disk self.now.files.rack) →
             EachImage (R.disk self.now.files.rack) (R.disk self.now.files.rack).moment
             (IsSound self.now.catalog (full_history self.now.core)) }
-        ensures exactly { self.now.phase ≡ phase.Settled → Told (R.disk self.now.files.rack) →
+        ensures exactly { self.now.phase ≡ phase.Settled → OwesNothing self.now.files.stores → Told (R.disk self.now.files.rack) →
             AreExactly self.now.catalog (full_history self.now.core) (R.disk self.now.files.rack).files }
-        ensures exactly_each { self.now.phase ≡ phase.Settled → Told (R.disk self.now.files.rack) →
+        ensures exactly_each { self.now.phase ≡ phase.Settled → OwesNothing self.now.files.stores → Told (R.disk self.now.files.rack) →
             EachImage (R.disk self.now.files.rack) (R.disk self.now.files.rack).moment
             (AreExactly self.now.catalog (full_history self.now.core)) }
     {

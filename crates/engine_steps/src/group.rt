@@ -1,4 +1,4 @@
-// Several events take effect together: prepared, recorded, committed, and kept.
+// Several events take effect together: prepared, recorded, committed in memory, and kept.
 ghost use Rattle.std.specs.Prelude.{◌≡◌, ◌≢◌, ◌≤◌, ◌<◌, ◌+◌, ◌*◌, ◌^◌, [], false, List, length, IsErr, OnOk};
 ghost use Rattle.process_tree.specs.Order.{Each};
 ghost use Rattle.process_tree.specs.declared.play.Outcome.TheVariants.{Done};
@@ -185,31 +185,22 @@ impl<R: Rack + Drop, B: Resource> Engine<R, B> {
         }
     }
 
-    /// Commits the effects of a recorded group, with two syncs for all. A crash leaves files that are sound for the history with
-    /// its events. With no effect it makes no call of the rack.
-    pub fn commit_group(&mut self) -> Result<(), DiskFault>
+    /// Takes the effects of a recorded group among the committed ones, and owes the files their commits: each is written with the next
+    /// effects that are prepared there, or by `settle`. It makes no call of the rack.
+    pub fn take_group(&mut self)
         requires fits { EachFits B.Resource self.old.files.stores }
         requires recorded { (group : List (List Effect)) × (h : History)
             × IsGroupRecorded self.old (R.disk self.old.files.rack) group h }
-        ensures step { LeavesCore self.old self.new result }
+        ensures same { (self.new.core ≡ self.old.core) × (self.new.catalog ≡ self.old.catalog)
+            × (self.new.files.rack ≡ self.old.files.rack) }
         ensures committed { (group : List (List Effect)) (h : History)
             → IsGroupRecorded self.old (R.disk self.old.files.rack) group h →
-            OnOk result (IsGroupCommitted self.new (R.disk self.new.files.rack) h) }
-        ensures any_moment { Told (R.disk self.old.files.rack) → (group : List (List Effect)) (h : History)
-            → IsGroupRecorded self.old (R.disk self.old.files.rack) group h
-            → EachImage (R.disk self.new.files.rack) (R.disk self.old.files.rack).moment (IsSound self.old.catalog h) }
+            IsGroupCommitted self.new (R.disk self.new.files.rack) h }
         ensures none { HasNoDoubt self.old.files.stores → self.new ≡ self.old }
         ensures fits { EachFits B.Resource self.new.files.stores }
-        ensures rack { LeavesImages R.Rack self.old.files.rack self.new.files.rack (IsErr result) }
     {
         books_come_to_groups::<B>();
-        match self.files.commit_staged() {
-            Ok(()) => Ok(()),
-            Err(fault) => {
-                self.phase = Phase::Closed;
-                Err(fault)
-            }
-        }
+        self.files.owe_commits();
     }
 
     /// Keeps that a piece of a group took effect; the answer is how many events the history has then. It makes no call of the rack.

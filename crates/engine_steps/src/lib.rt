@@ -3,8 +3,9 @@
 //! An engine is seen as a core, a catalog and files (`specs/Engines`). While nothing is under way and no call of the rack failed,
 //! its files stand for the history of its core, and each book is the effects of that history. It is made on nine empty files, or
 //! opened on the history that nine files have; it starts processes, and hands out their pieces. The events of pieces take
-//! effect together, one or more, in three steps (`specs/Groups`): prepared in the stores, recorded in the journal, and committed. A
-//! refusal touches no file. `process_engine` makes one call of these steps.
+//! effect together, one or more, in three steps (`specs/Groups`): prepared in the stores, recorded in the journal, and committed in
+//! memory. The commit of a store's file is written with the next effects that are prepared there, or by `settle`. A refusal touches
+//! no file. `process_engine` makes one call of these steps.
 #![tactic(auto)]
 
 mod asking;
@@ -17,6 +18,7 @@ mod making;
 mod opening;
 mod pieces;
 mod rooms;
+mod settling;
 
 pub use beginning::{EngineStart, EngineStartWhy};
 pub use engines::{Closed, Engine, Phase};

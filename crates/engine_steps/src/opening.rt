@@ -5,6 +5,7 @@ ghost use Rattle.process_disk.specs.Racks.{LeavesImages};
 ghost use Rattle.process_core.specs.Cores.{opened_on};
 ghost use Rattle.process_journal.specs.Journals.{IsHistoryUnder};
 ghost use Rattle.history_files.specs.Boxes.{AreBoxes, AreCleared};
+ghost use Rattle.history_files.specs.Groups.{OwesNothing};
 ghost use Rattle.history_files.specs.Standing.{EachFits};
 ghost use Rattle.history_opening.specs.declared.faults.OpenError.TheVariants.{DiskFault as Fault, NoMemory};
 ghost use Rattle.engine_steps.specs.Engines.{AreAtRest, full_history};
@@ -61,6 +62,7 @@ fn engine_on<R: Rack + Drop, B: Resource>(
     requires history { IsHistoryUnder catalog history }
     requires rest { AreAtRest catalog history files (R.disk files.rack) }
     requires fits { EachFits B.Resource files.stores }
+    requires owes { OwesNothing files.stores }
     ensures opened { IfOk result IsOpened }
     ensures on { IfOk result (IsOn catalog history files) }
     ensures rack { IfErr result (λ r. r.parts.rack ≡ files.rack) }

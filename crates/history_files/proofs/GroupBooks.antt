@@ -5,7 +5,7 @@ use Rattle.schedule_model.specs.declared.history.History.{History}
 use Rattle.commute_table.specs.declared.op.Op.{Op}
 use Rattle.subsystem_store.specs.declared.effect.Effect.{Effect}
 use Rattle.subsystem_store.specs.Opened.{Opened}
-use Rattle.store_group.specs.Events.{BecomeEach, IsCommitted, IsPrepared, effects_for}
+use Rattle.store_group.specs.Events.{BecomeEach, IsPrepared, OwesCommit, effects_for}
 use Rattle.store_group.proofs.InOrder.{of_became}
 use Rattle.history_files.specs.Effects.{effects}
 use Rattle.history_files.specs.Groups.{AddsGroup, GroupsAreSettled, GroupsComeTo}
@@ -38,7 +38,7 @@ module _ {B : Type 0} (ops : List Op) (h after : History) (group : List (List Ef
       subst (λ d. are_among d (effects ops after q) ≡ true) (sym (as_grouped q t at).0)
       (subst (λ es. are_among (effects_for group q) es ≡ true) (sym (adds q)) (are_among_behind (effects ops h q) (effects_for group q)))
 
-  pub group_settled : (last : List (Opened B)) → BecomeEach (λ q s t. IsCommitted s t) new last → (q : ℕ) (u : Opened B) → slice_get last q ≡ Some u → (u.doubt ≡ []) × (u.book ≡ effects ops after q)
+  pub group_settled : (last : List (Opened B)) → BecomeEach (λ q s t. OwesCommit s t) new last → (q : ℕ) (u : Opened B) → slice_get last q ≡ Some u → (u.doubt ≡ []) × (u.book ≡ effects ops after q)
   group_settled last committed = of_became _ (λ q u. (u.doubt ≡ []) × (u.book ≡ effects ops after q)) new last committed (λ q t u at by.
       let is = as_grouped q t at in
       (by.doubt, by.book ∙ ap (λ d. t.book ++ d) is.0 ∙ ap (λ b. b ++ effects_for group q) is.1 ∙ sym (adds q)))

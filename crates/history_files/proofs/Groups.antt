@@ -10,17 +10,19 @@ use Rattle.commute_table.specs.declared.catalog.Catalog.{Catalog}
 use Rattle.resource_box.specs.declared.call.Kind.{Kind}
 use Rattle.subsystem_store.specs.declared.effect.Effect.{Effect}
 use Rattle.subsystem_store.specs.Laws.{CommittedIsGood, FitsItsBytes, IsGoodBook, PreparedIsGood}
-use Rattle.subsystem_store.specs.Opened.{Account, Opened, IsStoreOfEither}
-use Rattle.store_group.specs.Events.{BecomeEach, IsCommitted, IsPrepared, IsUnchanged, MayPrepare, MayPrepareEach, effects_for}
+use Rattle.subsystem_store.specs.Opened.{Account, Opened, IsStoreOfEither, filed_book, filed_doubt}
+use Rattle.store_group.specs.Events.{BecomeEach, IsCommitted, IsPaid, IsPrepared, IsUnchanged, MayPrepare, MayPrepareEach, OwesCommit, effects_for, filed_with}
 use Rattle.store_group.specs.Groups.{AllStand, SameButStores}
 use Rattle.store_group.proofs.Beside.{images_beside, stands_beside}
-use Rattle.store_group.proofs.InOrder.{of_became}
+use Rattle.store_group.proofs.InOrder.{become_then, of_became}
+use Rattle.store_group.proofs.Taken.{owing_stand}
 use Rattle.process_journal.specs.Bodies.{journal_bodies}
 use Rattle.history_files.specs.Effects.{effects}
 use Rattle.history_files.specs.Groups.{FitEach, HasEachDoubt, LacksEach}
 use Rattle.history_files.specs.Sound.{IsSound, counted, is_among, kind_of}
 use Rattle.history_files.specs.Standing.{AreGoodBooks, AreStores, Stand}
 use Rattle.history_files.proofs.EndedDoubts.{EndedIsGood, is_due}
+use Rattle.history_files.proofs.FiledBooks.{counts_filed, good_filed}
 use Rattle.history_files.proofs.OneStore.{MayBe, either_book}
 use Rattle.history_files.proofs.Preparing.{MayCome, good_prepared, is_ready}
 use Rattle.history_files.proofs.SoundImages.{sound_by}
@@ -33,19 +35,39 @@ may_be_now c h log stores disk q s are stand at = record {
   counts = stand.books q s at;
 }
 
--- Each image of a call is sound for the history, whichever stores have the book of before and which that of after.
+-- and so does what its file has
+pub may_be_filed : {B : Type 0} (c : Catalog) (h : History) (log : LogState) (stores : List (Opened B)) (disk : Disk) (q : ℕ) (s : Opened B) → AreStores stores → Stand c h log stores disk → slice_get stores q ≡ Some s
+    → MayBe (effects c.ops h q) q (filed_book s, filed_doubt s)
+may_be_filed c h log stores disk q s are stand at =
+    let now = may_be_now c h log stores disk q s are stand at in
+    record { good = good_filed (kind_of q) s.book s.doubt s.owed now.good; counts = counts_filed (effects c.ops h q) s.book s.doubt s.owed now.counts }
+
+-- Each image of a call is sound for the history, whichever stores have what they had before and which what they have after.
 pub images_of_group : {B : Type 0} (c : Catalog) (h : History) (log : LogState) (stores : List (Opened B)) (old new : Disk) (after : ℕ → Opened B → List Effect × List Effect)
     → IsHonest old → AreStores stores → log.file ≡ 0 → Stand c h log stores old → RunBy (SameButStores stores) old new
     → ((q : ℕ) (s : Opened B) → slice_get stores q ≡ Some s → MayBe (effects c.ops h q) q (after q s))
-    → EachImage new old.moment (λ files. (q : ℕ) (s : Opened B) → slice_get stores q ≡ Some s → IsStoreOfEither s.log.file (s.book, s.doubt) (after q s) files)
+    → EachImage new old.moment (λ files. (q : ℕ) (s : Opened B) → slice_get stores q ≡ Some s → IsStoreOfEither s.log.file (filed_book s, filed_doubt s) (after q s) files)
     → EachImage new old.moment (IsSound c h)
 images_of_group {B} c h log stores old new after honest are zero stand run may each = record {
   has = λ files left. sound_by c h stores files are stand.journal.history
       (subst (λ k. IsLog k (journal_bodies c h) (file_of files k)) zero
       ((images_beside stores log (journal_bodies c h) old new honest (λ q s at is. absurd (omega (arith, is, zero, are.file q s at))) run stand.journal.log).has files left))
-      (λ q s at. either_book (effects c.ops h q) q (s.book, s.doubt) (after q s) files (may_be_now c h log stores old q s are stand at) (may q s at)
-      (subst (λ k. IsStoreOfEither k (s.book, s.doubt) (after q s) files) (are.file q s at) (each.has files left q s at)));
+      (λ q s at. either_book (effects c.ops h q) q (filed_book s, filed_doubt s) (after q s) files (may_be_filed c h log stores old q s are stand at) (may q s at)
+      (subst (λ k. IsStoreOfEither k (filed_book s, filed_doubt s) (after q s) files) (are.file q s at) (each.has files left q s at)));
 }
+
+-- What holds of a store as it became: it may have its book, which comes to the effects of the history.
+abbrev pub ComesAfter : {B : Type 0} → Catalog → History → ℕ → Opened B → Type 0
+ComesAfter c h q t = IsGoodBook t.kind t.book t.doubt × (counted (effects c.ops h q) t.book t.doubt ≡ effects c.ops h q)
+
+pub comes_after : {B : Type 0} (c : Catalog) (h : History) (stores changed : List (Opened B)) (after : ℕ → Opened B → List Effect × List Effect) → AreStores stores
+    → ((q : ℕ) (s : Opened B) → slice_get stores q ≡ Some s → MayBe (effects c.ops h q) q (after q s))
+    → BecomeEach (λ q s t. (t.kind ≡ s.kind) × (t.book ≡ (after q s).0) × (t.doubt ≡ (after q s).1)) stores changed
+    → (q : ℕ) (t : Opened B) → slice_get changed q ≡ Some t → ComesAfter c h q t
+comes_after c h stores changed after are may became = of_became _ (ComesAfter c h) stores changed became (λ q s t at by. (
+  subst (λ k. IsGoodBook k t.book t.doubt) (sym (by.0 ∙ are.kind q s at)) (subst (λ b. IsGoodBook (kind_of q) b t.doubt) (sym by.1) (subst (λ d. IsGoodBook (kind_of q) (after q s).0 d) (sym by.2) (may q s at).good)),
+  subst (λ b. counted (effects c.ops h q) b t.doubt ≡ effects c.ops h q) (sym by.1) (subst (λ d. counted (effects c.ops h q) (after q s).0 d ≡ effects c.ops h q) (sym by.2) (may q s at).counts),
+))
 
 -- After it the files stand for the history, where each store stands for a book that comes to its effects.
 pub stands_with_group : {B : Type 0} (c : Catalog) (h : History) (log : LogState) (stores changed : List (Opened B)) (old new : Disk) (after : ℕ → Opened B → List Effect × List Effect)
@@ -59,19 +81,9 @@ stands_with_group {B} c h log stores changed old new after honest honest_new are
     log = stands_beside stores log (journal_bodies c h) old new honest honest_new (λ q s at is. absurd (omega (arith, is, zero, are.file q s at))) run stand.journal.log;
   };
   stores = λ q t at. stands q t at;
-  good = λ q t at. (so q t at).0;
-  books = λ q t at. (so q t at).1;
+  good = λ q t at. (comes_after c h stores changed after are may became q t at).0;
+  books = λ q t at. (comes_after c h stores changed after are may became q t at).1;
 }
-  where
-    -- what holds of a store as it became
-    Comes : ℕ → Opened B → Type 0
-    Comes q t = IsGoodBook t.kind t.book t.doubt × (counted (effects c.ops h q) t.book t.doubt ≡ effects c.ops h q)
-
-    so : (q : ℕ) (t : Opened B) → slice_get changed q ≡ Some t → Comes q t
-    so = of_became _ Comes stores changed became (λ q s t at by. (
-      subst (λ k. IsGoodBook k t.book t.doubt) (sym (by.0 ∙ are.kind q s at)) (subst (λ b. IsGoodBook (kind_of q) b t.doubt) (sym by.1) (subst (λ d. IsGoodBook (kind_of q) (after q s).0 d) (sym by.2) (may q s at).good)),
-      subst (λ b. counted (effects c.ops h q) b t.doubt ≡ effects c.ops h q) (sym by.1) (subst (λ d. counted (effects c.ops h q) (after q s).0 d ≡ effects c.ops h q) (sym by.2) (may q s at).counts),
-    ))
 
 -- what a store comes to with its effects prepared,
 abbrev pub after_prepare : {B : Type 0} → List (List Effect) → ℕ → Opened B → List Effect × List Effect
@@ -94,6 +106,18 @@ may_be_prepared {B} law c h log stores disk group are stand lacks fit may q s at
     by (e ∷ es) is =
         is_ready law c h log stores disk q s (e ∷ es) are stand at (subst (λ x. All (λ (y : Effect). is_among y (effects c.ops h q) ≡ false) x) is (lacks q))
         (asked_of group stores q s (e ∷ es) at fit may is (λ none. absurd cc))
+
+-- what its file has with them is one too
+pub may_be_with : {B : Type 0} → PreparedIsGood → (c : Catalog) (h : History) (log : LogState) (stores : List (Opened B)) (disk : Disk) (group : List (List Effect)) → AreStores stores → Stand c h log stores disk
+    → LacksEach c.ops h group → FitEach group → MayPrepareEach group stores → (q : ℕ) (s : Opened B) → slice_get stores q ≡ Some s → MayBe (effects c.ops h q) q (filed_with (effects_for group q) s)
+may_be_with {B} law c h log stores disk group are stand lacks fit may q s at = by (effects_for group q) refl
+  where
+    by : (es : List Effect) → effects_for group q ≡ es → MayBe (effects c.ops h q) q (filed_with es s)
+    by [] is = may_be_filed c h log stores disk q s are stand at
+    by (e ∷ es) is =
+        let some : effects_for group q ≢ [] = λ none. let no : e ∷ es ≡ [] = sym is ∙ none in absurd cc in
+        subst (λ (d : List Effect). MayBe (effects c.ops h q) q (s.book, d)) (ap (λ (d : List Effect). d ++ effects_for group q) (may q s at some).settled ∙ is)
+        (may_be_prepared law c h log stores disk group are stand lacks fit may q s at)
 
 -- with what was in doubt committed
 abbrev pub after_commit : {B : Type 0} → ℕ → Opened B → List Effect × List Effect
@@ -129,10 +153,16 @@ prepared_keep group old new became = record {
   each = λ q s t at_s at_t. let by = became.each q s t at_s at_t in (by.file, by.kind);
 }
 
-pub committed_keep : {B : Type 0} (old new : List (Opened B)) → BecomeEach (λ q s t. IsCommitted s t) old new → BecomeEach (λ q s t. KeepsPlace s t) old new
-committed_keep old new became = record {
+pub owing_keep : {B : Type 0} (old new : List (Opened B)) → BecomeEach (λ q s t. OwesCommit s t) old new → BecomeEach (λ q s t. KeepsPlace s t) old new
+owing_keep old new became = record {
   count = became.count;
-  each = λ q s t at_s at_t. let by = became.each q s t at_s at_t in (by.file, by.kind);
+  each = λ q s t at_s at_t. let by = became.each q s t at_s at_t in (ap (λ l. l.file) by.log, by.kind);
+}
+
+pub paid_keep : {B : Type 0} (old new : List (Opened B)) → BecomeEach (λ q s t. IsPaid s t) old new → BecomeEach (λ q s t. KeepsPlace s t) old new
+paid_keep old new became = record {
+  count = became.count;
+  each = λ q s t at_s at_t. let by = became.each q s t at_s at_t in (by.file, ap (λ a. a.kind) by.account);
 }
 
 -- Each store is left a book that it may have: where nothing changed,
@@ -155,7 +185,7 @@ good_with_effects {B} law group old new fit may became good = of_became _ (λ q 
     with q (e ∷ es) is s at = good_prepared law s.kind s.book s.doubt (e ∷ es) (asked_of group old q s (e ∷ es) at fit may is (λ none. absurd cc)) (good q s at)
 
 -- and where they are committed.
-pub good_with_commits : {B : Type 0} → CommittedIsGood → (old new : List (Opened B)) → BecomeEach (λ q s t. IsCommitted s t) old new → AreGoodBooks old → AreGoodBooks new
+pub good_with_commits : {B : Type 0} → CommittedIsGood → (old new : List (Opened B)) → BecomeEach (λ q s t. OwesCommit s t) old new → AreGoodBooks old → AreGoodBooks new
 good_with_commits {B} law old new became good = of_became _ (λ q t. IsGoodBook t.kind t.book t.doubt) old new became (λ q s t at by.
     good_of t s.kind (s.book ++ s.doubt) [] by.kind by.book by.doubt (law s.kind s.book s.doubt (good q s at)))
 
@@ -164,6 +194,41 @@ pub as_prepared : {B : Type 0} (group : List (List Effect)) (old new : List (Ope
     → BecomeEach (λ q s t. (t.kind ≡ s.kind) × (t.book ≡ (after_prepare group q s).0) × (t.doubt ≡ (after_prepare group q s).1)) old new
 as_prepared group old new became = record { count = became.count; each = λ q s t at_s at_t. let by = became.each q s t at_s at_t in (by.kind, by.book, by.doubt) }
 
-pub as_committed : {B : Type 0} (old new : List (Opened B)) → BecomeEach (λ q s t. IsCommitted s t) old new
+pub as_committed : {B : Type 0} (old new : List (Opened B)) → BecomeEach (λ q s t. OwesCommit s t) old new
     → BecomeEach (λ q s t. (t.kind ≡ s.kind) × (t.book ≡ (after_commit q s).0) × (t.doubt ≡ (after_commit q s).1)) old new
 as_committed old new became = record { count = became.count; each = λ q s t at_s at_t. let by = became.each q s t at_s at_t in (by.kind, by.book, by.doubt) }
+
+-- Each store is left its book where its commit is written.
+pub good_paid : {B : Type 0} (old new : List (Opened B)) → BecomeEach (λ q s t. IsPaid s t) old new → AreGoodBooks old → AreGoodBooks new
+good_paid old new became good = of_became _ (λ q t. IsGoodBook t.kind t.book t.doubt) old new became (λ q s t at by.
+    subst (λ (a : Account _). IsGoodBook a.kind a.book a.doubt) (sym by.account) (good q s at))
+
+pub as_paid : {B : Type 0} (old new : List (Opened B)) → BecomeEach (λ q s t. IsPaid s t) old new → BecomeEach (λ q s t. (t.kind ≡ s.kind) × (t.book ≡ s.book) × (t.doubt ≡ s.doubt)) old new
+as_paid old new became = record {
+  count = became.count;
+  each = λ q s t at_s at_t. let by = became.each q s t at_s at_t in (ap (λ a. a.kind) by.account, ap (λ a. a.book) by.account, ap (λ a. a.doubt) by.account);
+}
+
+-- what a store comes to where its book stays
+abbrev pub as_it_is : {B : Type 0} → ℕ → Opened B → List Effect × List Effect
+as_it_is q s = (s.book, s.doubt)
+
+-- Stores that take what is in doubt, which the history has, among their committed effects, and owe the commits, stand as before.
+pub stands_owing : {B : Type 0} → EndedIsGood → (c : Catalog) (h : History) (log : LogState) (stores new : List (Opened B)) (disk : Disk) → AreStores stores → Stand c h log stores disk
+    → HasEachDoubt c.ops h stores → BecomeEach (λ q s t. OwesCommit s t) stores new → Stand c h log new disk
+stands_owing law c h log stores new disk are stand has became = record {
+  journal = stand.journal;
+  stores = λ q t at. owing_stand stores new disk became stand.stores q t at;
+  good = λ q t at. (comes_after c h stores new after_commit are (may_be_committed law c h log stores disk are stand has) (as_committed stores new became) q t at).0;
+  books = λ q t at. (comes_after c h stores new after_commit are (may_be_committed law c h log stores disk are stand has) (as_committed stores new became) q t at).1;
+}
+
+-- once their commits are written they are committed
+pub committed_then_paid : {B : Type 0} (old mid new : List (Opened B)) → BecomeEach (λ q s t. OwesCommit s t) old mid → BecomeEach (λ q s t. IsPaid s t) mid new → BecomeEach (λ q s t. IsCommitted s t) old new
+committed_then_paid old mid new owes paid = become_then (λ q s t. OwesCommit s t) (λ q s t. IsPaid s t) (λ q s t. IsCommitted s t) old mid new owes paid (λ q s t u owe pay. record {
+  file = pay.file ∙ ap (λ l. l.file) owe.log;
+  kind = ap (λ a. a.kind) pay.account ∙ owe.kind;
+  book = ap (λ a. a.book) pay.account ∙ owe.book;
+  doubt = ap (λ a. a.doubt) pay.account ∙ owe.doubt;
+  owed = pay.owed;
+})

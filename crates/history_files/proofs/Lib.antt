@@ -1,5 +1,6 @@
 pub mod Places
 pub mod StandingStores
+pub mod FiledBooks
 pub mod SoundImages
 pub mod OneStore
 pub mod CalledStore
@@ -10,7 +11,7 @@ pub mod Answered
 pub mod PreparedGroups
 pub mod Preparing
 pub mod GoodBooks
-pub mod NoDoubt
+pub mod NothingOwed
 pub mod Clearing
 pub mod MadeStores
 pub mod UsedFiles

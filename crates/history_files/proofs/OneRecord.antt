@@ -6,7 +6,7 @@ use Rattle.process_disk.specs.Images.{EachImage, OthersAsBefore}
 use Rattle.gate_log.specs.Standing.{LogState}
 use Rattle.schedule_model.specs.declared.history.History.{History}
 use Rattle.commute_table.specs.declared.catalog.Catalog.{Catalog}
-use Rattle.subsystem_store.specs.Opened.{Opened, IsStoreOf}
+use Rattle.subsystem_store.specs.Opened.{Opened, IsStoreOf, filed_book, filed_doubt}
 use Rattle.process_journal.specs.Journals.{IsHistoryUnder}
 use Rattle.process_journal.specs.Opened.{Stands, IsJournalOfEither}
 use Rattle.history_files.specs.Effects.{effects}
@@ -20,7 +20,7 @@ pub books_beside : {B : Type 0} (c : Catalog) (h k : History) (log : LogState) (
     → IsHonest old → AreStores stores → Stand c h log stores old → OthersAsBefore 0 old new → ComeTo c.ops k stores
     → (files : FileSet) → new.left_since old.moment files → (q : ℕ) (s : Opened B) → slice_get stores q ≡ Some s → IsBookOf (effects c.ops k q) q files
 books_beside c h k log stores old new honest are stand others come files left q s at = book_by _ q s files (are.kind q s at) (stand.good q s at) (come q s at)
-    (subst (λ n. IsStoreOf n s.book s.doubt files) (are.file q s at)
+    (subst (λ n. IsStoreOf n (filed_book s) (filed_doubt s) files) (are.file q s at)
     ((images_of_store_still 0 s old new honest (λ same. absurd (omega (arith, same, are.file q s at))) others (stand.stores q s at)).has files left))
 
 -- Each image of a record is sound for the history before it or with it.

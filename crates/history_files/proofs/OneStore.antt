@@ -13,7 +13,7 @@ use Rattle.schedule_model.specs.declared.history.History.{History}
 use Rattle.commute_table.specs.declared.catalog.Catalog.{Catalog}
 use Rattle.subsystem_store.specs.declared.effect.Effect.{Effect}
 use Rattle.subsystem_store.specs.Laws.{IsGoodBook}
-use Rattle.subsystem_store.specs.Opened.{Opened, Fits, Stands, IsStoreOf, IsStoreOfEither, account_of}
+use Rattle.subsystem_store.specs.Opened.{Opened, Fits, Stands, IsStoreOf, IsStoreOfEither, account_of, filed_book, filed_doubt}
 use Rattle.process_journal.specs.Bodies.{journal_bodies}
 use Rattle.history_files.specs.Effects.{effects}
 use Rattle.history_files.specs.Sound.{IsBookOf, IsSound, counted, kind_of}
@@ -50,7 +50,7 @@ images_of_store {B} c h log stores old new q one two honest are is stand others 
     book_of_each files left k s at (inl here) =
         subst (λ n. IsBookOf (effects c.ops h n) n files) (sym here.1) (either_book _ q one two files first second (each.has files left))
     book_of_each files left k s at (inr there) = book_by _ k s files (are.kind k s at) (stand.good k s at) (stand.books k s at)
-        (subst (λ n. IsStoreOf n s.book s.doubt files) (are.file k s at)
+        (subst (λ n. IsStoreOf n (filed_book s) (filed_doubt s) files) (are.file k s at)
         ((images_of_store_still (q + 1) s old new honest (λ is. there.1 (omega (arith, is, are.file k s at))) others (stand.stores k s at)).has files left))
 
 -- After it the files stand for the history, where the store stands for a book that comes to its effects.

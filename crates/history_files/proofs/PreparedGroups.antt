@@ -1,5 +1,5 @@
 -- What the preparing of a group leaves, whose records are on the disk behind the closed gate of the journal.
-use Rattle.std.proofs.Common.{◌≡◌, ◌≤◌, ℕ, List, ◌++◌, Some, refl, sym, subst, arith}
+use Rattle.std.proofs.Common.{◌≡◌, ◌≤◌, ℕ, List, ◌++◌, Some, refl, sym, ◌∙◌, subst, arith}
 use Rattle.std.specs.List.{slice_get}
 use Rattle.process_disk.specs.Disk.{Disk, FileSet, IsHonest}
 use Rattle.process_disk.specs.Images.{AllAsBefore, EachImage, RunBy}
@@ -9,22 +9,21 @@ use Rattle.gate_log.proofs.StagedImages.{each_still}
 use Rattle.schedule_model.specs.declared.history.History.{History}
 use Rattle.commute_table.specs.declared.catalog.Catalog.{Catalog}
 use Rattle.subsystem_store.specs.declared.effect.Effect.{Effect}
-use Rattle.subsystem_store.specs.Bodies.{prepared_bodies}
 use Rattle.subsystem_store.specs.Laws.{PreparedIsGood}
-use Rattle.subsystem_store.specs.Opened.{Account, IsStoreOfEither, Opened}
+use Rattle.subsystem_store.specs.Opened.{Account, IsStoreOfEither, Opened, filed_book, filed_doubt}
 use Rattle.process_journal.specs.Bodies.{journal_bodies}
 use Rattle.process_journal.specs.Opened.{IsJournalOf}
 use Rattle.process_journal.specs.Staged.{IsOnDisk, IsWritten}
-use Rattle.store_group.specs.Events.{BecomeEach, MayPrepareEach, StagesEffects, TakesEffects, effects_for}
+use Rattle.store_group.specs.Events.{BecomeEach, MayPrepareEach, StagesEffects, TakesEffects, effects_for, filed_with, next_bodies}
 use Rattle.store_group.specs.Groups.{AreBeforeOrWith, HasOnDisk, HasStaged, OfEach, SameButStores}
 use Rattle.store_group.proofs.Beside.{on_disk_beside}
 use Rattle.store_group.proofs.InOrder.{of_became}
-use Rattle.store_group.proofs.Taken.{adds_effects, effects_may_be_taken, effects_stand, effects_stand_still, effects_unchanged, either_staged, stages_effects}
+use Rattle.store_group.proofs.Taken.{adds_effects, effects_may_be_taken, effects_stand, effects_stand_still, effects_unchanged, either_staged, next_alike, owed_alike, stages_effects}
 use Rattle.history_files.specs.Effects.{effects}
 use Rattle.history_files.specs.Groups.{FitEach, LacksEach}
 use Rattle.history_files.specs.Sound.{IsSound, counted}
 use Rattle.history_files.specs.Standing.{AreStores, Stand}
-use Rattle.history_files.proofs.Groups.{after_prepare, good_unchanged, images_of_group, may_be_prepared, stands_with_group, stores_became, unchanged_keep}
+use Rattle.history_files.proofs.Groups.{after_prepare, good_unchanged, images_of_group, may_be_prepared, may_be_with, stands_with_group, stores_became, unchanged_keep}
 use Rattle.history_files.proofs.OneStore.{MayBe}
 
 module _ {B : Type 0} (group : List (List Effect)) (old mid : List (Opened B)) (became : BecomeEach (λ q s t. StagesEffects (effects_for group q) s t) old mid) where
@@ -45,14 +44,17 @@ module _ {B : Type 0} (group : List (List Effect)) (old mid : List (Opened B)) (
   may_be_staged : MayPrepareEach group old → MayPrepareEach group mid
   may_be_staged may q t at some = (effects_may_be_taken group old mid became may q t at some).prepare
 
-  staged : (q : ℕ) (t : Opened B) → slice_get mid q ≡ Some t → t.log.staged ≡ prepared_bodies (effects_for group q)
-  staged = of_became _ (λ q t. t.log.staged ≡ prepared_bodies (effects_for group q)) old mid became (λ q s t at by. (stages_effects (effects_for group q) s t by).staged)
+  staged : (q : ℕ) (t : Opened B) → slice_get mid q ≡ Some t → t.log.staged ≡ next_bodies (effects_for group q) t
+  staged = of_became _ (λ q t. t.log.staged ≡ next_bodies (effects_for group q) t) old mid became (λ q s t at by.
+      let is = stages_effects (effects_for group q) s t by in is.staged ∙ next_alike (effects_for group q) s t (sym (owed_alike s t is.account is.owed)))
 
   -- in a set each store is as it was or with its effects
-  before_or_prepared : (files : FileSet) → AreBeforeOrWith mid files → (q : ℕ) (t : Opened B) → slice_get mid q ≡ Some t → IsStoreOfEither t.log.file (t.book, t.doubt) (after_prepare group q t) files
-  before_or_prepared files each q t at =
+  before_or_prepared : MayPrepareEach group old → (files : FileSet) → AreBeforeOrWith mid files → (q : ℕ) (t : Opened B) → slice_get mid q ≡ Some t
+      → IsStoreOfEither t.log.file (filed_book t, filed_doubt t) (filed_with (effects_for group q) t) files
+  before_or_prepared may files each q t at =
       let es = effects_for group q in
-      either_staged (prepared_bodies es) t t t.book (t.doubt ++ es) files (record { file = refl; count = refl; end = refl; staged = staged q t at; account = refl }) (adds_effects es t.book t.doubt) (each q t at)
+      either_staged (next_bodies es t) t t (filed_with es t).0 (filed_with es t).1 files (record { file = refl; count = refl; end = refl; staged = staged q t at; account = refl; owed = refl })
+      (adds_effects es t (λ some. (may_be_staged may q t at some).settled)) (each q t at)
 
   module _ (law : PreparedIsGood) (c : Catalog) (h : History) (log : LogState) (one two : Disk) (are : AreStores old) (zero : log.file ≡ 0) (honest : IsHonest one) (stand : Stand c h log mid one)
       (run : RunBy (SameButStores mid) one two) where
@@ -69,8 +71,9 @@ module _ {B : Type 0} (group : List (List Effect)) (old mid : List (Opened B)) (
 
       -- Meanwhile each image is sound,
       pub images_opened : EachImage two one.moment (AreBeforeOrWith mid) → EachImage two one.moment (IsSound c h)
-      images_opened each = images_of_group c h log mid one two (after_prepare group) honest (stores_staged are) zero stand run with_effects
-          (each_so two one.moment (AreBeforeOrWith mid) (λ files. (q : ℕ) (t : Opened B) → slice_get mid q ≡ Some t → IsStoreOfEither t.log.file (t.book, t.doubt) (after_prepare group q t) files) before_or_prepared each)
+      images_opened each = images_of_group c h log mid one two (λ q t. filed_with (effects_for group q) t) honest (stores_staged are) zero stand run
+          (λ q t at. may_be_with law c h log mid one group (stores_staged are) stand lacks fit (may_be_staged may) q t at)
+          (each_so two one.moment (AreBeforeOrWith mid) (λ files. (q : ℕ) (t : Opened B) → slice_get mid q ≡ Some t → IsStoreOfEither t.log.file (filed_book t, filed_doubt t) (filed_with (effects_for group q) t) files) (before_or_prepared may) each)
 
       -- as it was while all was written;
       pub images_prepared : (start : Disk) → start.moment ≤ one.moment → EachImage one start.moment (IsSound c h) → EachImage two one.moment (AreBeforeOrWith mid) → EachImage two start.moment (IsSound c h)
@@ -80,7 +83,7 @@ module _ {B : Type 0} (group : List (List Effect)) (old mid : List (Opened B)) (
       pub stand_taken : IsHonest two → (new : List (Opened B)) → OfEach (λ t. HasStaged t two) mid → BecomeEach (λ q t u. TakesEffects (effects_for group q) t u) mid new → Stand c h log new two
       stand_taken honest_two new has took = stands_with_group c h log mid new one two (after_prepare group) honest honest_two (stores_staged are) zero stand run with_effects
           (record { count = took.count; each = λ q t u at_t at_u. let by = took.each q t u at_t at_u in (by.kind, by.book, by.doubt) })
-          (effects_stand group old mid became new two has took)
+          (effects_stand group old mid became may new two has took)
 
 -- What is on the disk behind closed gates stands as before.
 pub stand_on_disk : {B : Type 0} (c : Catalog) (h : History) (log : LogState) (stores : List (Opened B)) (old one : Disk) → Stand c h log stores old → IsOnDisk log c h one → OfEach (λ s. HasOnDisk s one) stores

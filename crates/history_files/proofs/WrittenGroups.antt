@@ -7,7 +7,7 @@ use Rattle.process_disk.proofs.Images.{each_so}
 use Rattle.gate_log.specs.Standing.{IsOpen, LogState}
 use Rattle.schedule_model.specs.declared.history.History.{History}
 use Rattle.commute_table.specs.declared.catalog.Catalog.{Catalog}
-use Rattle.subsystem_store.specs.Opened.{IsStoreOfEither, Opened}
+use Rattle.subsystem_store.specs.Opened.{IsStoreOfEither, Opened, filed_book, filed_doubt}
 use Rattle.process_journal.specs.Bodies.{journal_bodies}
 use Rattle.process_journal.specs.Opened.{IsJournalOf}
 use Rattle.process_journal.specs.Staged.{IsWritten}
@@ -16,7 +16,7 @@ use Rattle.store_group.proofs.Beside.{stands_beside}
 use Rattle.store_group.proofs.InTurn.{written_of_file}
 use Rattle.history_files.specs.Sound.{IsSound}
 use Rattle.history_files.specs.Standing.{AreStores, Stand}
-use Rattle.history_files.proofs.Groups.{images_of_group, may_be_now}
+use Rattle.history_files.proofs.Groups.{images_of_group, may_be_filed}
 use Rattle.history_files.proofs.OneRecord.{books_beside}
 use Rattle.history_files.proofs.SoundImages.{sound_by}
 
@@ -24,8 +24,8 @@ module _ {B : Type 0} (c : Catalog) (h : History) (log : LogState) (stores : Lis
   -- while the stores are written each image is sound,
   pub images_written : (old mid : Disk) → IsHonest old → Stand c h log stores old → RunBy (SameButStores stores) old mid → EachImage mid old.moment (AreAsBefore stores) → EachImage mid old.moment (IsSound c h)
   images_written old mid honest stand run each =
-      images_of_group c h log stores old mid (λ q s. (s.book, s.doubt)) honest are zero stand run (λ q s at. may_be_now c h log stores old q s are stand at)
-      (each_so mid old.moment (AreAsBefore stores) (λ files. (q : ℕ) (s : Opened B) → slice_get stores q ≡ Some s → IsStoreOfEither s.log.file (s.book, s.doubt) (s.book, s.doubt) files) (λ files all q s at. inl (all q s at)) each)
+      images_of_group c h log stores old mid (λ q s. (filed_book s, filed_doubt s)) honest are zero stand run (λ q s at. may_be_filed c h log stores old q s are stand at)
+      (each_so mid old.moment (AreAsBefore stores) (λ files. (q : ℕ) (s : Opened B) → slice_get stores q ≡ Some s → IsStoreOfEither s.log.file (filed_book s, filed_doubt s) (filed_book s, filed_doubt s) files) (λ files all q s at. inl (all q s at)) each)
 
   -- and then the files stand as before,
   pub stand_written : (old mid : Disk) → IsHonest old → IsHonest mid → Stand c h log stores old → RunBy (SameButStores stores) old mid → OfEach (λ s. HasWritten s mid) stores → Stand c h log stores mid

@@ -5,11 +5,15 @@ use Rattle.commute_table.specs.declared.op.Op.{Op}
 use Rattle.subsystem_store.specs.declared.effect.Effect.{Effect}
 use Rattle.subsystem_store.specs.Laws.{FitsItsBytes}
 use Rattle.subsystem_store.specs.Opened.{Opened}
-use Rattle.store_group.specs.Events.{BecomeEach, IsCommitted, IsPrepared, effects_for}
+use Rattle.store_group.specs.Events.{BecomeEach, IsPrepared, OwesCommit, effects_for}
 use Rattle.history_files.specs.Effects.{effects}
 use Rattle.history_files.specs.Sound.{is_among}
 use Rattle.history_files.specs.Laws.{AreSettled}
 use Rattle.history_files.specs.Standing.{AtEach, ComeTo, DoubtIs}
+
+-- no file is owed a commit
+abbrev pub OwesNothing : {B : Type 0} → List (Opened B) → Type 0
+OwesNothing stores = AtEach (λ q s. s.owed ≡ 0) stores
 
 -- nothing is in doubt in any store
 abbrev pub HasNoDoubt : {B : Type 0} → List (Opened B) → Type 0
@@ -42,4 +46,4 @@ GroupsComeTo B = (ops : List Op) (h after : History) (group : List (List Effect)
 abbrev pub GroupsAreSettled : Type 0 → Type 0
 GroupsAreSettled B = (ops : List Op) (h after : History) (group : List (List Effect)) (old new last : List (Opened B))
     → AddsGroup ops h after group → AreSettled ops h old → BecomeEach (λ q s t. IsPrepared (effects_for group q) s t) old new
-    → BecomeEach (λ q s t. IsCommitted s t) new last → AreSettled ops after last
+    → BecomeEach (λ q s t. OwesCommit s t) new last → AreSettled ops after last

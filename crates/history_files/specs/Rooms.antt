@@ -3,12 +3,13 @@ use Rattle.std.specs.Prelude.{◌≡◌, ℕ, List, [], ◌∷◌, ◌++◌, Som
 use Rattle.std.specs.List.{Contains, slice_get}
 use Rattle.subsystem_store.specs.Opened.{Opened}
 
--- The log, the kind, the book and what is in doubt stay.
+-- The log, the kind, the book, what is in doubt and what is owed stay.
 pub record MakesRoom {B : Type 0} (before after : Opened B) : Type 0 where
   pub log : after.log ≡ before.log
   pub kind : after.kind ≡ before.kind
   pub book : after.book ≡ before.book
   pub doubt : after.doubt ≡ before.doubt
+  pub owed : after.owed ≡ before.owed
 
 -- there is room for one effect more, at this key
 abbrev pub AddsRoom : {B : Type 0} → ℕ → Opened B → Opened B → Type 0

@@ -69,10 +69,14 @@ pub record Stand {B : Type 0} (c : Catalog) (h : History) (log : LogState) (all 
 abbrev pub StandForSome : {B : Type 0} → LogState → List (Opened B) → Disk → Type 0
 StandForSome log all disk = (c : Catalog) × (h : History) × Stand c h log all disk
 
+-- no store has an effect, committed or in doubt, and no file is owed a commit
+abbrev pub AreUnused : {B : Type 0} → List (Opened B) → Type 0
+AreUnused stores = AtEach (λ q s. (s.book ≡ []) × (s.doubt ≡ []) × (s.owed ≡ 0)) stores
+
 -- Files in which nothing has happened: no store has an effect, each box fits the book of its store, and the journal has the one
 -- record of its catalog.
 pub record AreNewFiles {R B : Type 0} (box : Resources B) (f : FilesState R B) : Type 0 where
-  pub unused : AtEach (λ q s. (s.book ≡ []) × (s.doubt ≡ [])) f.stores
+  pub unused : AreUnused f.stores
   pub fits : EachFits box f.stores
   pub good : AreGoodBooks f.stores
   pub count : f.journal.count ≡ 1

@@ -7,7 +7,7 @@ ghost use Rattle.commute_table.specs.Operations.{IsCatalog};
 ghost use Rattle.process_journal.specs.Bodies.{no_history};
 ghost use Rattle.history_files.specs.Boxes.{AreBoxes, AreCleared, AreInStores};
 ghost use Rattle.history_files.specs.Creating.{first_used, IsDueToFiles, AreLeftUnmade};
-ghost use Rattle.history_files.specs.Standing.{AtEach, AreNewFiles, AreStores, EachFits, AreGoodBooks, Stand};
+ghost use Rattle.history_files.specs.Standing.{AreNewFiles, AreStores, AreUnused, EachFits, AreGoodBooks, Stand};
 ghost use Rattle.history_files.specs.declared.faults.CreateError.TheVariants.{DiskFault as Fault, NoMemory};
 
 use crate::boxes::clear_all;
@@ -52,7 +52,7 @@ fn made<R: Rack, B: Resource>(
         (λ made. Stand catalog.now no_history made.0 made.1.items (R.disk rack.new)) }
     ensures journal { IfOk result (λ made. (made.0.file ≡ 0) × (made.0.count ≡ 1)) }
     ensures stores { IfOk result (λ made. AreStores made.1.items) }
-    ensures unused { IfOk result (λ made. AtEach (λ q s. (s.book ≡ []) × (s.doubt ≡ [])) made.1.items) }
+    ensures unused { IfOk result (λ made. AreUnused made.1.items) }
     ensures fits { IfOk result (λ made. EachFits B.Resource made.1.items) }
     ensures good { IfOk result (λ made. AreGoodBooks made.1.items) }
     ensures boxes { AreInStores B.Resource boxes.new result }

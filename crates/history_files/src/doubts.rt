@@ -1,4 +1,4 @@
-// What is in doubt in the stores: whether anything is, and what the history hasn't all of is taken back.
+// Whether a commit is owed, and how what the history hasn't all of is taken back.
 ghost use Rattle.std.specs.Prelude.{◌≡◌, ◌≢◌, ◌<◌, [], Some, OnOk, IsErr, false};
 ghost use Rattle.std.specs.List.{slice_get};
 ghost use Rattle.process_disk.specs.Disk.{Told};
@@ -7,7 +7,7 @@ ghost use Rattle.process_disk.specs.Images.{EachImage};
 ghost use Rattle.schedule_model.specs.declared.history.History.{History};
 ghost use Rattle.commute_table.specs.declared.catalog.Catalog.{Catalog};
 ghost use Rattle.subsystem_store.specs.Opened.{Opened};
-ghost use Rattle.history_files.specs.Groups.{HasNoDoubt};
+ghost use Rattle.history_files.specs.Groups.{OwesNothing};
 ghost use Rattle.history_files.specs.Sound.{IsSound};
 ghost use Rattle.history_files.specs.Standing.{AreGoodBooks, Changes, DoubtIs, EachFits, RollsBack, Stand, StandForSome};
 
@@ -18,20 +18,29 @@ use resource_box::Resource;
 use subsystem_store::calls_make_good_books;
 
 impl<R: Rack + Drop, B: Resource> Files<R, B> {
-    /// Whether anything is in doubt in the store of some subsystem.
-    pub(crate) fn has_doubt(&self) -> bool
-        ensures settled { result ≡ false → HasNoDoubt self.now.stores }
-        ensures some { HasNoDoubt self.now.stores → result ≡ false }
+    /// Whether some file is owed a commit.
+    pub(crate) fn owes(&self) -> bool
+        ensures none { result ≡ false → OwesNothing self.now.stores }
+        ensures some { OwesNothing self.now.stores → result ≡ false }
     {
         self.stores_hold();
         let mut q = 0;
         while q < SUBSYSTEMS {
-            if !self.in_doubt(q).is_empty() {
+            if self.owes_at(q) {
                 return true;
             }
             q += 1;
         }
         false
+    }
+
+    // Whether the file of a subsystem is owed a commit.
+    fn owes_at(&self, q: u8) -> bool
+        requires subsystem { q < 8 }
+        ensures none { (s : Opened B) → slice_get self.now.stores q ≡ Some s → result ≡ false → s.owed ≡ 0 }
+        ensures some { (s : Opened B) → slice_get self.now.stores q ≡ Some s → s.owed ≡ 0 → result ≡ false }
+    {
+        self.stores[usize::from(q)].owes()
     }
 
     /// Takes back all that is in doubt in the store of a subsystem, which the history hasn't all of.

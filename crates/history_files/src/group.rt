@@ -14,8 +14,10 @@ ghost use Rattle.process_journal.specs.Opened.{GoesOn};
 ghost use Rattle.process_journal.specs.Staged.{IsOnDisk};
 ghost use Rattle.history_files.specs.Sound.{IsSound, IsSoundForEither};
 ghost use Rattle.history_files.specs.Standing.{AreGoodBooks, ComeTo, EachFits, Stand, StandForSome};
-ghost use Rattle.store_group.specs.Events.{BecomeEach, IsUnchanged, IsPrepared, IsCommitted, MayPrepareEach, effects_for};
-ghost use Rattle.history_files.specs.Groups.{FitEach, HasEachDoubt, HasNoDoubt, LacksEach};
+ghost use Rattle.store_group.specs.Events.{BecomeEach, IsCommitted, IsPaid, IsPrepared, IsUnchanged, MayPrepareEach, OwesCommit};
+ghost use Rattle.store_group.specs.Events.{effects_for};
+ghost use Rattle.store_group.specs.Groups.{AllStand};
+ghost use Rattle.history_files.specs.Groups.{FitEach, HasEachDoubt, HasNoDoubt, LacksEach, OwesNothing};
 
 use crate::Files;
 use crate::putting::{prepare_all, write_records};
@@ -23,7 +25,7 @@ use gate_log::DiskFault;
 use process_disk::Rack;
 use process_journal::Record;
 use resource_box::Resource;
-use store_group::{Effects, commit_each};
+use store_group::{Effects, owe_each, write_owed};
 use subsystem_store::calls_make_good_books;
 
 impl<R: Rack + Drop, B: Resource> Files<R, B> {
@@ -76,8 +78,52 @@ impl<R: Rack + Drop, B: Resource> Files<R, B> {
         write_records(&self.journal, &mut self.rack)
     }
 
-    /// Commits each effect that is in doubt, which the history has, with two syncs for all. A crash leaves files that are sound for
-    /// the history, whichever effects are committed in them. With nothing in doubt it makes no call of the rack.
+    /// Takes each effect that is in doubt, which the history has, among the committed ones, and owes the files the commits. It makes
+    /// no call of the rack.
+    pub fn owe_commits(&mut self)
+        requires fits { EachFits B.Resource self.old.stores }
+        ensures stand { Told (R.disk self.old.rack) → (c : Catalog) (h : History)
+            → Stand c h self.old.journal self.old.stores (R.disk self.old.rack) →
+            HasEachDoubt c.ops h self.old.stores → Stand c h self.new.journal self.new.stores (R.disk self.new.rack) }
+        ensures fits { EachFits B.Resource self.new.stores }
+        ensures good { AreGoodBooks self.old.stores → AreGoodBooks self.new.stores }
+        ensures same { (self.new.journal ≡ self.old.journal) × (self.new.rack ≡ self.old.rack) }
+        ensures owes { BecomeEach (λ q s t. OwesCommit s t) self.old.stores self.new.stores }
+        ensures none { HasNoDoubt self.old.stores → self.new ≡ self.old }
+    {
+        calls_make_good_books();
+        owe_each(&mut self.stores);
+    }
+
+    /// Writes the commit that is owed to each store's file, with two syncs for all. A crash leaves files that are sound for the
+    /// history, whichever commits are written in them. With nothing owed it makes no call of the rack.
+    pub fn write_owed(&mut self) -> Result<(), DiskFault>
+        requires fits { EachFits B.Resource self.old.stores }
+        requires stand { Told (R.disk self.old.rack) → AllStand self.old.stores (R.disk self.old.rack) }
+        ensures acknowledged { Told (R.disk self.old.rack) → (c : Catalog) (h : History)
+            → Stand c h self.old.journal self.old.stores (R.disk self.old.rack) →
+            OnOk result (Stand c h self.new.journal self.new.stores (R.disk self.new.rack)) }
+        ensures any_moment { Told (R.disk self.old.rack) → (c : Catalog) (h : History)
+            → Stand c h self.old.journal self.old.stores (R.disk self.old.rack) →
+            EachImage (R.disk self.new.rack) (R.disk self.old.rack).moment (IsSound c h) }
+        ensures fits { EachFits B.Resource self.new.stores }
+        ensures good { AreGoodBooks self.old.stores → AreGoodBooks self.new.stores }
+        ensures journal { self.new.journal ≡ self.old.journal }
+        ensures ok { OnOk result (BecomeEach (λ q s t. IsPaid s t) self.old.stores self.new.stores) }
+        ensures none { OwesNothing self.old.stores → IsOk result × (self.new ≡ self.old) }
+        ensures err { OnErr result (BecomeEach (λ q s t. IsUnchanged s t) self.old.stores self.new.stores) }
+        ensures rack { LeavesImages R.Rack self.old.rack self.new.rack (IsErr result) }
+    {
+        self.soundness_holds();
+        if !self.owes() {
+            return Ok(());
+        }
+        write_owed(&mut self.stores, &mut self.rack)
+    }
+
+    /// Commits each effect that is in doubt, which the history has, and writes each commit that is owed, with two syncs for all. A
+    /// crash leaves files that are sound for the history, whichever commits are written in them. With nothing in doubt and nothing
+    /// owed it makes no call of the rack.
     pub fn commit_staged(&mut self) -> Result<(), DiskFault>
         requires fits { EachFits B.Resource self.old.stores }
         requires stand { Told (R.disk self.old.rack) → StandForSome self.old.journal self.old.stores (R.disk self.old.rack) }
@@ -91,16 +137,11 @@ impl<R: Rack + Drop, B: Resource> Files<R, B> {
         ensures good { AreGoodBooks self.old.stores → AreGoodBooks self.new.stores }
         ensures journal { self.new.journal ≡ self.old.journal }
         ensures ok { OnOk result (BecomeEach (λ q s t. IsCommitted s t) self.old.stores self.new.stores) }
-        ensures none { HasNoDoubt self.old.stores → IsOk result × (self.new ≡ self.old) }
-        ensures err { OnErr result (BecomeEach (λ q s t. IsUnchanged s t) self.old.stores self.new.stores) }
+        ensures none { HasNoDoubt self.old.stores → OwesNothing self.old.stores → IsOk result × (self.new ≡ self.old) }
         ensures rack { LeavesImages R.Rack self.old.rack self.new.rack (IsErr result) }
     {
-        calls_make_good_books();
-        self.soundness_holds();
-        if !self.has_doubt() {
-            return Ok(());
-        }
-        commit_each(&mut self.stores, &mut self.rack)
+        self.owe_commits();
+        self.write_owed()
     }
 
     /// Adds a record to those that the journal will have by `record_written`. It makes no call of the rack.

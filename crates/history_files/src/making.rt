@@ -6,7 +6,7 @@ ghost use Rattle.process_disk.specs.Racks.{LeavesImages};
 ghost use Rattle.gate_log.specs.Standing.{LogState, StandsFor};
 ghost use Rattle.subsystem_store.specs.Opened.{Stands};
 ghost use Rattle.history_files.specs.Boxes.{AreInStores, AreParted};
-ghost use Rattle.history_files.specs.Standing.{AtEach, AreStores, EachFits};
+ghost use Rattle.history_files.specs.Standing.{AtEach, AreStores, AreUnused, EachFits};
 ghost use Rattle.history_files.specs.declared.faults.CreateError.TheVariants.{DiskFault as Fault, NoMemory};
 
 use crate::CreateError;
@@ -29,7 +29,7 @@ pub fn make_stores<R: Rack, B: Resource>(
     requires none { (stores.items ≡ []) × (8 ≤ vec_capacity stores) }
     requires empty { Told (R.disk rack.old) → (k : ℕ) → 1 ≤ k → k < 9 → file_of (R.disk rack.old).files k ≡ [] }
     ensures stores { IfOk result (λ ss. AreStores ss.items) }
-    ensures unused { IfOk result (λ ss. AtEach (λ q s. (s.book ≡ []) × (s.doubt ≡ [])) ss.items) }
+    ensures unused { IfOk result (λ ss. AreUnused ss.items) }
     ensures stand { Told (R.disk rack.old) → IfOk result (λ ss. AtEach (λ q s. Stands s (R.disk rack.new)) ss.items) }
     ensures fits { IfOk result (λ ss. EachFits B.Resource ss.items) }
     ensures boxes { AreInStores B.Resource boxes.new result }

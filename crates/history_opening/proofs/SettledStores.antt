@@ -18,7 +18,7 @@ use Rattle.history_files.specs.Laws.{AreSettled}
 use Rattle.history_files.specs.Sound.{IsSound, are_among, counted}
 use Rattle.store_group.specs.Events.{BecomeEach, IsCommitted}
 use Rattle.store_group.proofs.InOrder.{of_became}
-use Rattle.history_files.specs.Groups.{HasEachDoubt}
+use Rattle.history_files.specs.Groups.{HasEachDoubt, OwesNothing}
 use Rattle.history_files.specs.Standing.{AreStores, Changes, ComeTo, DoubtIs, RollsBack, Stand}
 use Rattle.history_files.proofs.Counting.{counts_after}
 use Rattle.history_files.proofs.Places.{set_each}
@@ -77,6 +77,10 @@ due_behind n ops h stores are is below q s at =
 pub all_settled : {B : Type 0} (ops : List Op) (h : History) (old new : List (Opened B)) → ComeTo ops h old → HasEachDoubt ops h old → BecomeEach (λ q s t. IsCommitted s t) old new → AreSettled ops h new
 all_settled ops h old new come due became = of_became _ (λ q t. (t.doubt ≡ []) × (t.book ≡ effects ops h q)) old new became
     (λ q s t at by. (by.doubt, by.book ∙ counts_after true (effects ops h q) s.book s.doubt (due q s at) (come q s at)))
+
+-- and no file is owed a commit
+pub all_paid : {B : Type 0} (old new : List (Opened B)) → BecomeEach (λ q s t. IsCommitted s t) old new → OwesNothing new
+all_paid old new became = of_became _ (λ q t. t.owed ≡ 0) old new became (λ q s t at by. by.owed)
 
 -- Files that stood for a history at a moment, and in which some was settled since.
 pub record SettledSince {B : Type 0} (c : Catalog) (h : History) (log : LogState) (stores : List (Opened B)) (start now : Disk) : Type 0 where

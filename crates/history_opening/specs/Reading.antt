@@ -9,6 +9,7 @@ use Rattle.subsystem_store.specs.Opened.{Opened, Stands}
 use Rattle.process_journal.specs.Bodies.{journal_bodies}
 use Rattle.process_journal.specs.Journals.{IsHistoryUnder}
 use Rattle.process_journal.specs.Opened.{Stands as JournalStands}
+use Rattle.history_files.specs.Groups.{OwesNothing}
 use Rattle.history_files.specs.Laws.{AreSettled}
 use Rattle.history_files.specs.Standing.{AtEach, AreGoodBooks, AreStores, EachFits, FilesState}
 
@@ -25,7 +26,7 @@ pub record StandAsRead {B : Type 0} (c : Catalog) (h : History) (log : LogState)
   pub stores : AtEach (λ q s. Stands s disk) all
 
 -- Files as they are opened: the history is one that a journal of the catalog may have, and its records are counted; the stores are
--- settled for it, their books good, and their boxes fit them.
+-- settled for it, their books good, their boxes fit them, and no file is owed a commit.
 pub record AreOpenFiles {R B : Type 0} (box : Resources B) (c : Catalog) (h : History) (f : FilesState R B)
     : Type 0 where
   pub history : IsHistoryUnder c h
@@ -33,3 +34,4 @@ pub record AreOpenFiles {R B : Type 0} (box : Resources B) (c : Catalog) (h : Hi
   pub settled : AreSettled c.ops h f.stores
   pub good : AreGoodBooks f.stores
   pub fits : EachFits box f.stores
+  pub owes : OwesNothing f.stores

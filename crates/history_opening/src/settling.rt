@@ -5,7 +5,7 @@ ghost use Rattle.process_disk.specs.Racks.{LeavesImages};
 ghost use Rattle.process_disk.specs.Images.{EachImage};
 ghost use Rattle.schedule_model.specs.Histories.{acts};
 ghost use Rattle.history_files.specs.Effects.{effects};
-ghost use Rattle.history_files.specs.Groups.{HasEachDoubt};
+ghost use Rattle.history_files.specs.Groups.{HasEachDoubt, OwesNothing};
 ghost use Rattle.history_files.specs.Laws.{AreSettled};
 ghost use Rattle.history_files.specs.Sound.{IsSound, are_among, is_among};
 ghost use Rattle.history_files.specs.Standing.{Stand, EachFits, AreGoodBooks, ComeTo};
@@ -125,6 +125,7 @@ pub fn settle_all<R: Rack + Drop, B: Resource>(
     ensures any_moment { Told (R.disk files.old.rack)
         → EachImage (R.disk files.new.rack) (R.disk files.old.rack).moment (IsSound catalog.now history.now) }
     ensures settled { OnOk result (AreSettled catalog.now.ops history.now files.new.stores) }
+    ensures owes { OnOk result (OwesNothing files.new.stores) }
     ensures fits { EachFits B.Resource files.new.stores }
     ensures good { AreGoodBooks files.old.stores → AreGoodBooks files.new.stores }
     ensures journal { files.new.journal ≡ files.old.journal }

@@ -1,9 +1,7 @@
 -- What the steps of a group ask, of pieces that may take effect together.
 use Rattle.std.proofs.Common.{◌≡◌, ◌≢◌, ℕ, true, List, [], ◌∷◌, length, map, refl, sym, subst, arith}
 use Rattle.std.proofs.lemmas.List.{length-map}
-use Rattle.process_disk.specs.Disk.{Disk, FileSet}
-use Rattle.process_disk.specs.Images.{EachImage, ImagesFollow}
-use Rattle.process_disk.proofs.Images.{each_then}
+use Rattle.process_disk.specs.Disk.{Disk}
 use Rattle.process_tree.specs.Order.{Each}
 use Rattle.schedule_model.specs.declared.event.Event.{Event}
 use Rattle.schedule_model.specs.Course.{Course}
@@ -80,9 +78,3 @@ recordable old new disk events meets core catalog prepared = record {
   adds = subst (λ k. AddsGroup new.catalog.ops (full_history k) (with_events (full_history k) events) (next_group old.catalog.ops (full_history old.core) events)) (sym core)
       (subst (λ c. AddsGroup c.ops (full_history old.core) (with_events (full_history old.core) events) (next_group old.catalog.ops (full_history old.core) events)) (sym catalog) meets.adds);
 }
-
--- what is so of each image of three steps
-pub images_of_three : (P : FileSet → Type 0) (a b c d : Disk) → ImagesFollow a b → ImagesFollow b c → ImagesFollow c d → EachImage b a.moment P → EachImage c b.moment P → EachImage d c.moment P
-    → EachImage d a.moment P
-images_of_three P a b c d first second third one two three =
-    each_then c d a.moment P (let x = first.later in let y = second.later in omega (arith, x, y)) third (each_then b c a.moment P first.later second one two) three

@@ -61,8 +61,8 @@ fn pieces_fit(pieces: &[Piece])
     }
 }
 
-/// The events of a group are prepared, recorded and committed. A crash leaves files that are sound for the history without them or
-/// with all of them.
+/// The events of a group are prepared, recorded and committed, and the commits are owed to the files. A crash leaves files that are
+/// sound for the history without them or with all of them.
 pub(crate) fn put_group<R: Rack + Drop, B: Resource>(
     engine: &mut Engine<R, B>,
     events: &[Event],
@@ -86,7 +86,8 @@ pub(crate) fn put_group<R: Rack + Drop, B: Resource>(
     engine.stores_hold();
     engine.prepare_group(events)?;
     engine.record_group()?;
-    engine.commit_group()
+    engine.take_group();
+    Ok(())
 }
 
 // Keeps the effect of each piece that runs, and tells of each what became of it.

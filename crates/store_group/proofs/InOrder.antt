@@ -74,12 +74,19 @@ module _ {B : Type 0} (step : ℕ → Opened B → Opened B → Type 0) where
       let was : slice_get old q ≡ Some (get_or old q t) = slice_get-get_or old q t (omega (arith, within, became.count)) in
       so q (get_or old q t) t was (became.each q (get_or old q t) t was at)
 
-  -- and of each store by what it became
+  -- and of each store by what it became,
   pub of_was : (P : ℕ → Opened B → Type 0) (old new : List (Opened B)) → BecomeEach step old new → ((q : ℕ) (s t : Opened B) → slice_get new q ≡ Some t → step q s t → P q s) → (q : ℕ) (s : Opened B) → slice_get old q ≡ Some s → P q s
   of_was P old new became so q s at =
       let within = slice_get_within old q s at in
       let is : slice_get new q ≡ Some (get_or new q s) = slice_get-get_or new q s (omega (arith, within, became.count)) in
       so q s (get_or new q s) is (became.each q s (get_or new q s) at is)
+
+  -- and where it was too
+  pub of_was_at : (P : ℕ → Opened B → Type 0) (old new : List (Opened B)) → BecomeEach step old new → ((q : ℕ) (s t : Opened B) → slice_get old q ≡ Some s → slice_get new q ≡ Some t → step q s t → P q s) → (q : ℕ) (s : Opened B) → slice_get old q ≡ Some s → P q s
+  of_was_at P old new became so q s at =
+      let within = slice_get_within old q s at in
+      let is : slice_get new q ≡ Some (get_or new q s) = slice_get-get_or new q s (omega (arith, within, became.count)) in
+      so q s (get_or new q s) at is (became.each q s (get_or new q s) at is)
 
 -- one step after another
 pub become_then : {B : Type 0} (first second both : ℕ → Opened B → Opened B → Type 0) (old mid new : List (Opened B)) → BecomeEach first old mid → BecomeEach second mid new

@@ -10,7 +10,7 @@ use Rattle.gate_log.specs.LogFile.{IsLog}
 use Rattle.gate_log.proofs.Standing.{stands_still}
 use Rattle.gate_log.proofs.StagedImages.{each_file_over, written_still, on_disk_still, opened_still}
 use Rattle.subsystem_store.specs.Bodies.{SomeBodies}
-use Rattle.subsystem_store.specs.Opened.{Opened, Stands}
+use Rattle.subsystem_store.specs.Opened.{Opened, Stands, filed_book, filed_doubt}
 use Rattle.store_group.specs.Groups.{AreInOrder, OfEach, SameButStores, HasWritten, HasOnDisk, IsOpenAt}
 
 -- a run on one of the stores leaves all files but theirs,
@@ -34,10 +34,10 @@ pub record IsOfFile {B : Type 0} (P : Opened B → Disk → Type 0) (Image : Ope
 
 -- the file is the log of the book with what is in doubt; or of that with what is staged
 abbrev pub FileIsBefore : {B : Type 0} → Opened B → List ℕ → Type 0
-FileIsBefore s file = SomeBodies s.book s.doubt (λ bodies. IsLog s.log.file bodies file)
+FileIsBefore s file = SomeBodies (filed_book s) (filed_doubt s) (λ bodies. IsLog s.log.file bodies file)
 
 abbrev pub FileIsEither : {B : Type 0} → Opened B → List ℕ → Type 0
-FileIsEither s file = SomeBodies s.book s.doubt (λ bodies. IsLog s.log.file bodies file ⊎ IsLog s.log.file (bodies ++ s.log.staged) file)
+FileIsEither s file = SomeBodies (filed_book s) (filed_doubt s) (λ bodies. IsLog s.log.file bodies file ⊎ IsLog s.log.file (bodies ++ s.log.staged) file)
 
 -- a store that stands does so while other files change
 stands_kept : {B : Type 0} (k : ℕ) (s : Opened B) (old new : Disk) → IsHonest old → IsHonest new → s.log.file ≢ k → OthersAsBefore k old new → Stands s old → Stands s new

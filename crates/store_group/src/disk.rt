@@ -3,7 +3,7 @@ ghost use Rattle.std.specs.Prelude.{OnOk, IsErr};
 ghost use Rattle.process_disk.specs.Disk.{Told};
 ghost use Rattle.process_disk.specs.Racks.{LeavesRack};
 ghost use Rattle.process_disk.specs.Images.{EachImage, RunBy, OthersAsBefore};
-ghost use Rattle.subsystem_store.specs.Opened.{Stands, IsStoreOf};
+ghost use Rattle.subsystem_store.specs.Opened.{Stands, IsStoreOf, filed_book, filed_doubt};
 ghost use Rattle.subsystem_store.specs.Staged.{IsBeforeOrWith};
 ghost use Rattle.store_group.specs.Groups.{OfEach, AreInOrder, AllStand, AreAsBefore, AreBeforeOrWith, SameButStores};
 ghost use Rattle.store_group.specs.Groups.{HasWritten, HasOnDisk, IsOpenAt, HasStaged};
@@ -18,7 +18,7 @@ fn write_one<R: Rack, B: Resource>(store: &Store<B>, rack: &mut R) -> Result<(),
     requires stands { Told (R.disk rack.old) → Stands store.now (R.disk rack.old) }
     ensures written { Told (R.disk rack.old) → OnOk result (HasWritten store.now (R.disk rack.new)) }
     ensures any_moment { Told (R.disk rack.old) → EachImage (R.disk rack.new) (R.disk rack.old).moment
-        (IsStoreOf store.now.log.file store.now.book store.now.doubt) }
+        (IsStoreOf store.now.log.file (filed_book store.now) (filed_doubt store.now)) }
     ensures others { Told (R.disk rack.old) → OthersAsBefore store.now.log.file (R.disk rack.old) (R.disk rack.new) }
     ensures rack { LeavesRack R.Rack rack.old rack.new (IsErr result) }
 {
@@ -115,7 +115,7 @@ pub fn open_on_disk<R: Rack, B: Resource>(
 }
 
 /// Brings what is staged in each store onto the disk, with two syncs for all. A crash leaves each store as it was or with all
-/// that is staged in it, whichever the others are. The stores don't count it yet: `take_prepared` and `take_committed` do.
+/// that is staged in it, whichever the others are. The stores don't count it yet: `take_prepared` and `take_commit` do.
 pub fn put_on_disk<R: Rack, B: Resource>(stores: &[Store<B>], rack: &mut R) -> Result<(), DiskFault>
     requires order { AreInOrder stores.now }
     requires stand { Told (R.disk rack.old) → AllStand stores.now (R.disk rack.old) }

@@ -1,4 +1,4 @@
-// The effects of a group in their stores: prepared together, and committed together.
+// The effects of a group in their stores: prepared together, committed together in memory, and later in the files.
 ghost use Rattle.std.specs.Prelude.{IsErr, OnErr, OnOk, ◌≡◌, ◌≢◌, []};
 ghost use Rattle.process_disk.specs.Disk.{Told};
 ghost use Rattle.process_disk.specs.Racks.{LeavesRack};
@@ -6,7 +6,7 @@ ghost use Rattle.process_disk.specs.Images.{EachImage, RunBy};
 ghost use Rattle.subsystem_store.specs.Opened.{Fits, account_of};
 ghost use Rattle.store_group.specs.Groups.{OfEach, AreInOrder, AllStand, SameButStores};
 ghost use Rattle.store_group.specs.Events.{effects_for, BecomeEach, IsUnchanged, MayPrepare, MayPrepareEach, IsPrepared};
-ghost use Rattle.store_group.specs.Events.{IsCommitted, AreBeforeOrPrepared, AreBeforeOrCommitted, StagesEffects, StagesCommit};
+ghost use Rattle.store_group.specs.Events.{IsPaid, OwesCommit, AreBeforeOrPrepared, AreBeforeOrPaid, StagesEffects, StagesCommit};
 ghost use Rattle.store_group.specs.Events.{TakesEffects, TakesCommit, MayTake, MayTakeEach, MayTakeCommit};
 
 use crate::Effects;
@@ -50,26 +50,24 @@ fn take_effect<B: Resource>(store: &mut Store<B>, effects: &[Effect])
     }
 }
 
-// Stages the commit of what is in doubt, if anything is, and nothing else.
-fn stage_commit<B: Resource>(store: &mut Store<B>)
-    ensures { StagesCommit store.old store.new }
-{
-    if store.in_doubt().is_empty() {
-        store.unstage();
-    } else {
-        store.stage_commit();
-    }
-}
-
-// Takes the staged commit of what is in doubt, if anything is.
-fn take_commit<B: Resource>(store: &mut Store<B>)
-    requires may { MayTakeCommit store.old }
+// Takes what is in doubt among the committed effects, if anything is, and owes the file the commit.
+fn owe_commit<B: Resource>(store: &mut Store<B>)
     requires fits { Fits B.Resource (account_of store.old) }
-    ensures takes { TakesCommit store.old store.new }
+    ensures owes { OwesCommit store.old store.new }
     ensures fits { Fits B.Resource (account_of store.new) }
 {
     if !store.in_doubt().is_empty() {
-        store.take_committed();
+        store.owe_commit();
+    }
+}
+
+// Takes the staged commit that is owed, if one is.
+fn take_commit<B: Resource>(store: &mut Store<B>)
+    requires may { MayTakeCommit store.old }
+    ensures { TakesCommit store.old store.new }
+{
+    if store.owes() {
+        store.take_commit();
     }
 }
 
@@ -99,13 +97,26 @@ pub fn take_effects<B: Resource>(stores: &mut Vec<Store<B>>, effects: &[Effects]
     }
 }
 
-// Stages the commit of what is in doubt in each store.
+/// Takes what is in doubt in each store among its committed effects, and owes the files the commits. It makes no call of a rack.
+pub fn owe_each<B: Resource>(stores: &mut Vec<Store<B>>)
+    requires fits { OfEach (λ s. Fits B.Resource (account_of s)) stores.old.items }
+    ensures owes { BecomeEach (λ q s t. OwesCommit s t) stores.old.items stores.new.items }
+    ensures fits { OfEach (λ s. Fits B.Resource (account_of s)) stores.new.items }
+{
+    let mut place = 0;
+    while place < stores.len() {
+        owe_commit(&mut stores[place]);
+        place += 1;
+    }
+}
+
+// Stages the commit that is owed in each store.
 fn stage_commits<B: Resource>(stores: &mut Vec<Store<B>>)
     ensures { BecomeEach (λ q s t. StagesCommit s t) stores.old.items stores.new.items }
 {
     let mut place = 0;
     while place < stores.len() {
-        stage_commit(&mut stores[place]);
+        stores[place].stage_commit();
         place += 1;
     }
 }
@@ -113,9 +124,7 @@ fn stage_commits<B: Resource>(stores: &mut Vec<Store<B>>)
 // Takes the staged commit in each store.
 fn take_commits<B: Resource>(stores: &mut Vec<Store<B>>)
     requires may { OfEach MayTakeCommit stores.old.items }
-    requires fits { OfEach (λ s. Fits B.Resource (account_of s)) stores.old.items }
-    ensures takes { BecomeEach (λ q s t. TakesCommit s t) stores.old.items stores.new.items }
-    ensures fits { OfEach (λ s. Fits B.Resource (account_of s)) stores.new.items }
+    ensures { BecomeEach (λ q s t. TakesCommit s t) stores.old.items stores.new.items }
 {
     let mut place = 0;
     while place < stores.len() {
@@ -150,9 +159,9 @@ pub fn prepare_each<R: Rack, B: Resource>(
     Ok(())
 }
 
-/// Commits what is in doubt in each store, with two syncs for all. A crash leaves each store as it was or with all that was in doubt
-/// among the committed ones, whichever the others are.
-pub fn commit_each<R: Rack, B: Resource>(
+/// Writes the commit that is owed in each store, with two syncs for all. A crash leaves each store as it was or with its commit,
+/// whichever the others are.
+pub fn write_owed<R: Rack, B: Resource>(
     stores: &mut Vec<Store<B>>,
     rack: &mut R,
 ) -> Result<(), DiskFault>
@@ -161,9 +170,9 @@ pub fn commit_each<R: Rack, B: Resource>(
     requires stand { Told (R.disk rack.old) → AllStand stores.old.items (R.disk rack.old) }
     ensures acknowledged { Told (R.disk rack.old) → OnOk result (AllStand stores.new.items (R.disk rack.new)) }
     ensures any_moment { Told (R.disk rack.old)
-        → EachImage (R.disk rack.new) (R.disk rack.old).moment (AreBeforeOrCommitted stores.old.items) }
+        → EachImage (R.disk rack.new) (R.disk rack.old).moment (AreBeforeOrPaid stores.old.items) }
     ensures others { Told (R.disk rack.old) → RunBy (SameButStores stores.old.items) (R.disk rack.old) (R.disk rack.new) }
-    ensures ok { OnOk result (BecomeEach (λ q s t. IsCommitted s t) stores.old.items stores.new.items) }
+    ensures ok { OnOk result (BecomeEach (λ q s t. IsPaid s t) stores.old.items stores.new.items) }
     ensures err { OnErr result (BecomeEach (λ q s t. IsUnchanged s t) stores.old.items stores.new.items) }
     ensures fits { OfEach (λ s. Fits B.Resource (account_of s)) stores.new.items }
     ensures rack { LeavesRack R.Rack rack.old rack.new (IsErr result) }

@@ -5,8 +5,8 @@
 //! leaves each store as it was or with all that is staged in it, whichever the others are (`specs/Groups`). The layer above
 //! knows that any of these is sound for its history.
 //!
-//! `prepare_each` prepares effects in each of several stores so, and `commit_each` commits what is in doubt in each
-//! (`specs/Events`).
+//! `prepare_each` prepares effects in each of several stores so, with the commits that are owed. `owe_each` takes what is in doubt in
+//! each among its committed effects and owes the files the commits, without a sync, and `write_owed` writes those (`specs/Events`).
 #![tactic(auto)]
 
 mod disk;
@@ -15,4 +15,4 @@ mod events;
 
 pub use disk::{open_on_disk, write_each};
 pub use effects::Effects;
-pub use events::{commit_each, prepare_each, stage_effects, take_effects};
+pub use events::{owe_each, prepare_each, stage_effects, take_effects, write_owed};

@@ -10,7 +10,7 @@ use process_disk::{MemoryRack, Rack};
 use resource_box::{Call, Resource, Verb};
 use std::alloc::Global;
 use std::process::Abort;
-use store_group::{Effects, commit_each, prepare_each};
+use store_group::{Effects, owe_each, prepare_each, write_owed};
 use subsystem_store::{Effect, Store};
 
 // Adds 5 at key 1.
@@ -81,7 +81,8 @@ fn committed<H: Abort, R: Rack, B: Resource>(
     let Ok(()) = prepare_each(&mut stores, rack, &[effects]) else {
         panic!(rt; "not prepared");
     };
-    let Ok(()) = commit_each(&mut stores, rack) else {
+    owe_each(&mut stores);
+    let Ok(()) = write_owed(&mut stores, rack) else {
         panic!(rt; "not committed");
     };
     let Some(store) = stores.pop() else {

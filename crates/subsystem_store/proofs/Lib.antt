@@ -9,3 +9,4 @@ mod Records
 mod Reading
 mod Rooms
 pub mod StoreFiles
+pub mod Filed

@@ -30,6 +30,11 @@ last_number (e ∷ next ∷ effects) = last_number (next ∷ effects)
 abbrev pub prepared_bodies : List Effect → List (List ℕ)
 prepared_bodies effects = map prepared_bytes effects
 
+-- the body that commits these effects, if there are some
+abbrev pub commit_bodies : List Effect → List (List ℕ)
+commit_bodies [] = []
+commit_bodies (e ∷ effects) = committed_bytes (last_number (e ∷ effects)) ∷ []
+
 -- those of effects that are committed together: each is prepared, and then all up to the last are committed
 abbrev pub group_bodies : List Effect → List (List ℕ)
 group_bodies group = prepared_bodies group ++ committed_bytes (last_number group) ∷ []

@@ -1,5 +1,5 @@
 -- What an open store is.
-use Rattle.std.specs.Prelude.{◌≡◌, ◌⊎◌, ℕ, List, IsTrue, All}
+use Rattle.std.specs.Prelude.{◌≡◌, ◌⊎◌, ℕ, ◌-◌, List, [], ◌∷◌, ◌++◌, length, take, drop, IsTrue, All}
 use Rattle.process_disk.specs.Disk.{Disk, FileSet}
 use Rattle.gate_log.specs.Standing.{LogState, Logs, StandsFor}
 use Rattle.resource_box.specs.declared.resource.Resource.{Ghosts as Resources}
@@ -31,7 +31,7 @@ pub record Fits {B : Type 0} (box : Resources B) (a : Account B) : Type 0 where
 abbrev pub book_of : {B : Type 0} → Account B → Book
 book_of a = record { book = a.book; doubt = a.doubt }
 
--- What a store is seen as: its log and its account.
+-- What a store is seen as: its log, its account, and how many of the last effects of the book have a commit that the file hasn't.
 pub record Opened (B : Type 0) : Type 0 where
   pub log : LogState
   pub kind : Kind
@@ -39,14 +39,42 @@ pub record Opened (B : Type 0) : Type 0 where
   pub book : List Effect
   pub doubt : List Effect
   pub ready : List ℕ
+  pub owed : ℕ
 
 -- the account of a store
 abbrev pub account_of : {B : Type 0} → Opened B → Account B
 account_of s = record { kind = s.kind; resource = s.resource; book = s.book; doubt = s.doubt; ready = s.ready }
 
--- The store's file is the log of its book and of what is in doubt, and so is each image of that file from now on.
+-- the last so many effects of a book, and those before them
+abbrev pub last_of : ℕ → List Effect → List Effect
+last_of n book = drop (length book - n) book
+
+abbrev pub before_last : ℕ → List Effect → List Effect
+before_last n book = take (length book - n) book
+
+-- the effects of a book of which the commit is owed: the last so many, where nothing is in doubt behind it; and those before them
+abbrev pub owed_by : List Effect → ℕ → List Effect → List Effect
+owed_by [] n book = last_of n book
+owed_by (e ∷ doubt) n book = []
+
+abbrev pub before_by : List Effect → ℕ → List Effect → List Effect
+before_by [] n book = before_last n book
+before_by (e ∷ doubt) n book = book
+
+-- the effects of which the commit is owed to the file
+abbrev pub owed_of : {B : Type 0} → Opened B → List Effect
+owed_of s = owed_by s.doubt s.owed s.book
+
+-- the book that the file has, and what is in doubt there: the effects of which the commit is owed, and those in doubt
+abbrev pub filed_book : {B : Type 0} → Opened B → List Effect
+filed_book s = before_by s.doubt s.owed s.book
+
+abbrev pub filed_doubt : {B : Type 0} → Opened B → List Effect
+filed_doubt s = owed_of s ++ s.doubt
+
+-- The store's file is the log of the book that it has and of what is in doubt there, and so is each image of that file from now on.
 abbrev pub Stands : {B : Type 0} → Opened B → Disk → Type 0
-Stands s disk = SomeBodies s.book s.doubt (λ bodies. StandsFor s.log bodies disk)
+Stands s disk = SomeBodies (filed_book s) (filed_doubt s) (λ bodies. StandsFor s.log bodies disk)
 
 -- file q of the set is the log of this book with these effects in doubt
 abbrev pub IsStoreOf : ℕ → List Effect → List Effect → FileSet → Type 0

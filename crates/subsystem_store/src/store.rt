@@ -10,13 +10,14 @@ ghost use Rattle.resource_box.specs.Table.{bars};
 ghost use Rattle.subsystem_store.specs.declared.effect.Effect.{Effect};
 ghost use Rattle.gate_log.specs.LogFile.{records_size};
 ghost use Rattle.gate_log.specs.Staging.{staging, staging_all, unstaged, with_staged};
-ghost use Rattle.subsystem_store.specs.Bodies.{prepared_bodies, committed_bytes, last_number};
+ghost use Rattle.subsystem_store.specs.Bodies.{commit_bodies, committed_bytes, prepared_bodies};
 ghost use Rattle.subsystem_store.specs.Values.{values};
 ghost use Rattle.subsystem_store.specs.Order.{MayFollowEach, most_effects, read_store};
 ghost use Rattle.subsystem_store.specs.Room.{HasRoom};
 ghost use Rattle.subsystem_store.specs.Laws.{IsGoodBook};
 ghost use Rattle.subsystem_store.specs.Answers.{OpensAs, IsFault};
-ghost use Rattle.subsystem_store.specs.Opened.{Opened, Fits, Stands, account_of, IsStoreOf, IsStoreOfEither};
+ghost use Rattle.subsystem_store.specs.Opened.{Opened, Fits, Stands, account_of, filed_book, filed_doubt, owed_of};
+ghost use Rattle.subsystem_store.specs.Opened.{IsStoreOf, IsStoreOfEither};
 ghost use Rattle.subsystem_store.specs.Staged.{IsWritten, IsOnDisk, HasOpened, IsBeforeOrWith};
 
 use crate::account::Account;
@@ -49,10 +50,12 @@ fn stage_each(log: &mut Log, effects: &[Effect])
 pub struct Store<B: Drop = Box<dyn Resource + Send>> {
     log: Log,
     account: Account<B>,
+    // how many of the last effects of the book have a commit that isn't written yet
+    owed: usize,
 }
 
 impl<B: Drop> Model for Store<B> {
-    ghost use Rattle.std.specs.Prelude.{◌≢◌, ◌≤◌, ◌+◌, ◌*◌, [], length};
+    ghost use Rattle.std.specs.Prelude.{◌≡◌, ◌≢◌, ◌<◌, ◌≤◌, ◌+◌, ◌*◌, [], length};
     ghost use Rattle.gate_log.specs.Standing.{CanRetract};
     ghost use Rattle.subsystem_store.specs.Opened.{Opened};
     ghost use Rattle.subsystem_store.specs.Order.{most_effects};
@@ -66,9 +69,12 @@ impl<B: Drop> Model for Store<B> {
       book = s.account.book;
       doubt = s.account.doubt;
       ready = s.account.ready;
+      owed = s.owed;
     } };
 
-    ghost invariant = { λ s. (s.log.count ≤ 2 * length s.account.book + length s.account.doubt)
+    ghost invariant = { λ s. (s.owed ≤ length s.account.book) × (s.account.doubt ≢ [] → s.owed ≡ 0)
+        × (0 < s.owed → s.log.count < 2 * length s.account.book)
+        × (s.log.count ≤ 2 * length s.account.book + length s.account.doubt)
         × (length s.account.book + length s.account.doubt ≤ most_effects)
         × (s.account.doubt ≢ [] → CanRetract (length s.account.doubt) (28 * length s.account.doubt) s.log) };
 }
@@ -85,7 +91,7 @@ impl<B: Resource> Store<B> {
         requires empty { Told (R.disk rack.old) → file_of (R.disk rack.old).files file ≡ [] }
         ensures stands { Told (R.disk rack.old) → IfOk result (λ s. Stands s (R.disk rack.new)) }
         ensures fits { IfOk result (λ s. Fits B.Resource (account_of s)) }
-        ensures unused { IfOk result (λ s. (s.log.file ≡ file) × (s.kind ≡ B.sort resource) × (s.book ≡ []) × (s.doubt ≡ [])) }
+        ensures unused { IfOk result (λ s. (s.log.file ≡ file) × (s.kind ≡ B.sort resource) × (s.book ≡ []) × (s.doubt ≡ []) × (s.owed ≡ 0)) }
         ensures cleared { IfErr result (λ r. ((B.meaning r.resource).items ≡ []) × (B.sort r.resource ≡ B.sort resource)) }
         ensures refused { IfErr result
             (λ r. r.why ≢ StoreError.NoMemory → (r.why ≡ StoreError.DiskFault) × Rose (R.faults rack.old) (R.faults rack.new)) }
@@ -94,7 +100,11 @@ impl<B: Resource> Store<B> {
     {
         let account = Account::new(alloc, resource);
         match Log::create(alloc, rack, file) {
-            Ok(log) => Ok(Store { log, account }),
+            Ok(log) => Ok(Store {
+                log,
+                account,
+                owed: 0,
+            }),
             Err(error) => Err(StoreRefused {
                 resource: account.cleared(),
                 why: error.into(),
@@ -114,7 +124,7 @@ impl<B: Resource> Store<B> {
             (read_store (B.sort resource) file (file_of (R.disk rack.old).files file)) result }
         ensures stands { Told (R.disk rack.old) → IfOk result (λ s. Stands s (R.disk rack.new)) }
         ensures fits { IfOk result (λ s. Fits B.Resource (account_of s)) }
-        ensures store { IfOk result (λ s. (s.log.file ≡ file) × (s.kind ≡ B.sort resource)) }
+        ensures store { IfOk result (λ s. (s.log.file ≡ file) × (s.kind ≡ B.sort resource) × (s.owed ≡ 0)) }
         ensures good { IfOk result (λ s. IsGoodBook s.kind s.book s.doubt) }
         ensures cleared { IfErr result (λ r. ((B.meaning r.resource).items ≡ []) × (B.sort r.resource ≡ B.sort resource)) }
         ensures all { Told (R.disk rack.old) → AllAsBefore (R.disk rack.old) (R.disk rack.new) }
@@ -124,7 +134,11 @@ impl<B: Resource> Store<B> {
         match Log::open(alloc, rack, file) {
             Ok((log, bodies)) => {
                 let account = account.replay(&bodies)?;
-                Ok(Store { log, account })
+                Ok(Store {
+                    log,
+                    account,
+                    owed: 0,
+                })
             }
             Err(error) => Err(StoreRefused {
                 resource: account.cleared(),
@@ -146,7 +160,7 @@ impl<B: Resource> Store<B> {
         ensures ok { OnOk result (self.new.doubt ≡ []) }
         ensures err { OnErr result (self.new.doubt ≡ self.old.doubt) }
         ensures same { (self.new.log.file ≡ self.old.log.file) × (self.new.kind ≡ self.old.kind)
-            × (self.new.book ≡ self.old.book) × (self.new.ready ≡ self.old.ready) }
+            × (self.new.book ≡ self.old.book) × (self.new.ready ≡ self.old.ready) × (self.new.owed ≡ self.old.owed) }
         ensures others { Told (R.disk rack.old) → OthersAsBefore self.old.log.file (R.disk rack.old) (R.disk rack.new) }
         ensures rack { LeavesRack R.Rack rack.old rack.new (IsErr result) }
     {
@@ -173,7 +187,7 @@ impl<B: Resource> Store<B> {
         ensures ok { OnOk result (self.new.ready ≡ self.old.ready ++ key ∷ []) }
         ensures err { OnErr result (self.new.ready ≡ self.old.ready) }
         ensures same { (self.new.log ≡ self.old.log) × (self.new.kind ≡ self.old.kind)
-            × (self.new.book ≡ self.old.book) × (self.new.doubt ≡ self.old.doubt) }
+            × (self.new.book ≡ self.old.book) × (self.new.doubt ≡ self.old.doubt) × (self.new.owed ≡ self.old.owed) }
     {
         self.account.make_room(key)
     }
@@ -181,43 +195,55 @@ impl<B: Resource> Store<B> {
     /// Lets go what is staged.
     pub fn unstage(&mut self)
         ensures log { self.new.log ≡ unstaged self.old.log }
-        ensures same { account_of self.new ≡ account_of self.old }
+        ensures same { (account_of self.new ≡ account_of self.old) × (self.new.owed ≡ self.old.owed) }
     {
         self.log.unstage();
     }
 
-    /// Stages the records that prepare these effects, and nothing else. The store stands for the same book.
+    /// Stages the record of the commit that is owed, if one is, and the records that prepare these effects, and nothing else. The
+    /// store stands for the same book.
     pub fn stage_prepare(&mut self, effects: &[Effect])
         requires settled { self.old.doubt ≡ [] }
         requires few { length self.old.book + length effects.now ≤ most_effects }
-        requires size { 28 * length effects.now ≤ 65538 }
-        ensures log { self.new.log ≡ staging_all (unstaged self.old.log) (prepared_bodies effects.now) }
-        ensures same { account_of self.new ≡ account_of self.old }
+        requires size { 8 + 28 * length effects.now ≤ 65538 }
+        ensures log { self.new.log ≡
+            staging_all (unstaged self.old.log) (commit_bodies (owed_of self.old) ++ prepared_bodies effects.now) }
+        ensures same { (account_of self.new ≡ account_of self.old) × (self.new.owed ≡ self.old.owed) }
     {
-        self.log.unstage();
+        self.stage_commit();
         stage_each(&mut self.log, effects);
     }
 
-    /// Stages the record that commits all effects in doubt, and nothing else. They stay in doubt.
+    /// Stages the record of the commit that is owed, if one is, and nothing else.
     pub fn stage_commit(&mut self)
-        requires doubt { self.old.doubt ≢ [] }
-        ensures log { self.new.log ≡ staging (unstaged self.old.log) (committed_bytes (last_number self.old.doubt)) }
-        ensures same { account_of self.new ≡ account_of self.old }
+        ensures log { self.new.log ≡ staging_all (unstaged self.old.log) (commit_bodies (owed_of self.old)) }
+        ensures same { (account_of self.new ≡ account_of self.old) × (self.new.owed ≡ self.old.owed) }
     {
-        let number = self.last_in_doubt();
         self.log.unstage();
+        if self.owed == 0 {
+            return;
+        }
+        let number = self.last_committed();
         self.log.stage(&committed_bytes(number));
     }
 
-    // The number of the last effect in doubt.
-    fn last_in_doubt(&self) -> u32
-        requires doubt { self.now.doubt ≢ [] }
-        ensures { result ≡ last_number self.now.doubt }
+    // The number of the last effect of the book.
+    fn last_committed(&self) -> u32
+        requires some { 0 < self.now.owed }
+        ensures { commit_bodies (owed_of self.now) ≡ committed_bytes result ∷ [] }
     {
-        match self.account.in_doubt() {
+        match self.account.book() {
             [.., last] => last.number,
             [] => unreachable!(),
         }
+    }
+
+    /// Whether a commit is owed.
+    pub fn owes(&self) -> bool
+        ensures some { IsTrue result → owed_of self.now ≢ [] }
+        ensures none { result ≡ false → self.now.owed ≡ 0 }
+    {
+        self.owed > 0
     }
 
     /// Whether anything is staged.
@@ -233,7 +259,8 @@ impl<B: Resource> Store<B> {
         requires stands { Told (R.disk rack.old) → Stands self.now (R.disk rack.old) }
         ensures written { Told (R.disk rack.old) → OnOk result (IsWritten self.now (R.disk rack.new)) }
         ensures any_moment { Told (R.disk rack.old) →
-            EachImage (R.disk rack.new) (R.disk rack.old).moment (IsStoreOf self.now.log.file self.now.book self.now.doubt) }
+            EachImage (R.disk rack.new) (R.disk rack.old).moment
+            (IsStoreOf self.now.log.file (filed_book self.now) (filed_doubt self.now)) }
         ensures others { Told (R.disk rack.old) → OthersAsBefore self.now.log.file (R.disk rack.old) (R.disk rack.new) }
         ensures rack { LeavesRack R.Rack rack.old rack.new (IsErr result) }
     {
@@ -247,13 +274,13 @@ impl<B: Resource> Store<B> {
         ensures opened { Told (R.disk rack.old) → OnOk result (HasOpened self.now (R.disk rack.new)) }
         ensures any_moment { Told (R.disk rack.old)
             → EachImage (R.disk rack.new) (R.disk rack.old).moment (IsBeforeOrWith self.now) }
-        ensures prepared { Told (R.disk rack.old) → (effects : List Effect) → self.now.log.staged ≡ prepared_bodies effects →
+        ensures prepared { Told (R.disk rack.old) → (effects : List Effect) → self.now.doubt ≡ []
+            → self.now.log.staged ≡ commit_bodies (owed_of self.now) ++ prepared_bodies effects →
             EachImage (R.disk rack.new) (R.disk rack.old).moment
-            (IsStoreOfEither self.now.log.file (self.now.book, self.now.doubt) (self.now.book, self.now.doubt ++ effects)) }
-        ensures committed { Told (R.disk rack.old) → self.now.doubt ≢ []
-            → self.now.log.staged ≡ committed_bytes (last_number self.now.doubt) ∷ [] →
+            (IsStoreOfEither self.now.log.file (filed_book self.now, filed_doubt self.now) (self.now.book, effects)) }
+        ensures committed { Told (R.disk rack.old) → self.now.log.staged ≡ commit_bodies (owed_of self.now) →
             EachImage (R.disk rack.new) (R.disk rack.old).moment
-            (IsStoreOfEither self.now.log.file (self.now.book, self.now.doubt) (self.now.book ++ self.now.doubt, [])) }
+            (IsStoreOfEither self.now.log.file (filed_book self.now, filed_doubt self.now) (self.now.book, self.now.doubt)) }
         ensures others { Told (R.disk rack.old) → OthersAsBefore self.now.log.file (R.disk rack.old) (R.disk rack.new) }
         ensures rack { LeavesRack R.Rack rack.old rack.new (IsErr result) }
     {
@@ -261,38 +288,52 @@ impl<B: Resource> Store<B> {
     }
 
     /// Takes effects in doubt, once the gate of the records that prepare them is open on the disk. It needs no memory, and lets go
-    /// what room is left.
+    /// what room is left. Nothing is owed then.
     pub fn take_prepared(&mut self, effects: &[Effect])
         requires settled { self.old.doubt ≡ [] }
         requires some { effects.now ≢ [] }
         requires few { length self.old.book + length effects.now ≤ most_effects }
         requires follow { MayFollowEach self.old.kind self.old.book effects.now }
         requires fits { Fits B.Resource (account_of self.old) }
-        requires staged { self.old.log.staged ≡ prepared_bodies effects.now }
+        requires staged { self.old.log.staged ≡ commit_bodies (owed_of self.old) ++ prepared_bodies effects.now }
         requires room { HasRoom self.old.ready effects.now }
         ensures log { self.new.log ≡ with_staged self.old.log }
         ensures fits { Fits B.Resource (account_of self.new) }
         ensures doubt { self.new.doubt ≡ effects.now }
         ensures ready { self.new.ready ≡ [] }
         ensures same { (self.new.kind ≡ self.old.kind) × (self.new.book ≡ self.old.book) }
+        ensures owed { self.new.owed ≡ 0 }
     {
         self.account.hold_each(effects);
         self.log.take_staged();
+        self.owed = 0;
     }
 
-    /// Takes all effects in doubt among the committed ones, once the gate of the record that commits them is open on the disk.
-    pub fn take_committed(&mut self)
+    /// Takes all effects in doubt among the committed ones, and owes the file their commit. It makes no call of a rack.
+    pub fn owe_commit(&mut self)
         requires doubt { self.old.doubt ≢ [] }
         requires fits { Fits B.Resource (account_of self.old) }
-        requires staged { self.old.log.staged ≡ committed_bytes (last_number self.old.doubt) ∷ [] }
-        ensures log { self.new.log ≡ with_staged self.old.log }
+        ensures log { self.new.log ≡ self.old.log }
         ensures fits { Fits B.Resource (account_of self.new) }
         ensures doubt { self.new.doubt ≡ [] }
         ensures book { self.new.book ≡ self.old.book ++ self.old.doubt }
         ensures same { self.new.kind ≡ self.old.kind }
+        ensures filed { (filed_book self.new ≡ filed_book self.old) × (filed_doubt self.new ≡ filed_doubt self.old) }
     {
+        self.owed = self.account.in_doubt().len();
         self.account.commit();
+    }
+
+    /// Counts the commit that was owed as written, once the gate of its record is open on the disk.
+    pub fn take_commit(&mut self)
+        requires owed { owed_of self.old ≢ [] }
+        requires staged { self.old.log.staged ≡ commit_bodies (owed_of self.old) }
+        ensures log { self.new.log ≡ with_staged self.old.log }
+        ensures same { account_of self.new ≡ account_of self.old }
+        ensures owed { self.new.owed ≡ 0 }
+    {
         self.log.take_staged();
+        self.owed = 0;
     }
 
     /// The value at a key.

@@ -20,7 +20,7 @@ loop-resource-preserved g c =
       parted = subst (λ ss. AreParted box.sort ss c.pop.new.self.items) (sym pushed)
           (goes_in box.sort old.stores.items store c.pop.new.self.items c.in-Some.resource (sym made.unused.1) (subst (AreParted box.sort old.stores.items) c.in-Some.ensures.items old.invariant.parted));
       files = each_pushed (λ q s. s.log.file ≡ q + 1) old.stores.items store _ pushed old.invariant.files (made.unused.0 ∙ same);
-      unused = each_pushed (λ q s. (s.book ≡ []) × (s.doubt ≡ [])) old.stores.items store _ pushed old.invariant.unused (made.unused.2, made.unused.3);
+      unused = each_pushed (λ q s. (s.book ≡ []) × (s.doubt ≡ []) × (s.owed ≡ 0)) old.stores.items store _ pushed old.invariant.unused (made.unused.2, made.unused.3, made.unused.4);
       fits = each_pushed (λ q s. Fits box (account_of s)) old.stores.items store _ pushed old.invariant.fits made.fits;
       stores_room = omega (arith, old.invariant.stores_room, c.push_reserved.ensures.capacity);
       boxes_room = omega (arith, old.invariant.boxes_room, c.pop.ensures.capacity);

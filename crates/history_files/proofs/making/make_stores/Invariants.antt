@@ -1,7 +1,7 @@
 use Rattle.std.proofs.Common.{◌≡◌, ◌≤◌, ◌+◌, [], vec_len, vec_capacity}
 use Rattle.process_disk.specs.Disk.{Told}
 use Rattle.history_files.specs.Boxes.{AreParted}
-use Rattle.history_files.specs.Standing.{AtEach, EachFits}
+use Rattle.history_files.specs.Standing.{AreUnused, AtEach, EachFits}
 use Rattle.history_files.proofs.MadeStores.{Made}
 use Rattle.history_files.proofs.making.make_stores.Given as goal
 
@@ -9,7 +9,7 @@ abbrev pub invariant-loop-resource : goal.invariant-loop-resource
 invariant-loop-resource g l = record {
   parted : AreParted g.B.Resource.sort l.stores.items l.boxes.items;
   files : AtEach (λ q s. s.log.file ≡ q + 1) l.stores.items;
-  unused : AtEach (λ q s. (s.book ≡ []) × (s.doubt ≡ [])) l.stores.items;
+  unused : AreUnused l.stores.items;
   fits : EachFits g.B.Resource l.stores.items;
   stores_room : 8 ≤ vec_capacity l.stores;
   boxes_room : 8 ≤ vec_capacity l.boxes;

@@ -28,6 +28,7 @@ returns-in-Ok-settle_all-clause-opened g c = record {
   settled = search rules;
   good = c.in-Ok-settle_all.ensures.good (subst (λ f. AreGoodBooks f.stores) (sym c.new-files.ensures) c.in-Ok.ensures.stores.good);
   fits = search rules;
+  owes = search rules;
 }
 
 pub returns-in-Ok-settle_all-clause-sound : goal.returns-in-Ok-settle_all-clause-sound

@@ -1,13 +1,12 @@
-use Rattle.std.proofs.Common.{◌∙◌, List, inl, inr, rules, sym, subst}
-use Rattle.process_disk.specs.Images.{EachImage}
+use Rattle.std.proofs.Common.{◌∙◌, List, ap, arith, inl, rules, sym, subst}
+use Rattle.process_disk.specs.Images.{EachImage, ImagesFollow}
 use Rattle.subsystem_store.specs.declared.effect.Effect.{Effect}
 use Rattle.history_files.specs.Sound.{IsSound, IsSoundForEither}
 use Rattle.process_disk.proofs.Images.{each_so, each_then, follow_then}
-use Rattle.std.specs.Prelude.{OnOk}
 use Rattle.engine_steps.specs.Engines.{full_history}
 use Rattle.engine_steps.specs.Groups.{IsGroupCommitted, MayBeRecorded, with_events}
 use Rattle.engine_steps.specs.Listing.{next_group}
-use Rattle.process_engine.proofs.GroupPut.{MeetsEach, group_meets, images_of_three, recordable}
+use Rattle.process_engine.proofs.GroupPut.{MeetsEach, group_meets, recordable}
 use Rattle.process_engine.proofs.flushing.put_group.Given as given
 use Rattle.process_engine.proofs.flushing.put_group.Goals as goal
 use Rattle.process_engine.proofs.flushing.put_group.Goals.{After-stores_hold}
@@ -46,12 +45,12 @@ record_group-requires-clause-may g c = (
       c.prepare_group.ensures.step.core c.prepare_group.ensures.step.catalog c.in_ok-prepare_group.ensures.prepared),
 )
 
-pub commit_group-requires-clause-recorded : goal.commit_group-requires-clause-recorded
+pub take_group-requires-clause-recorded : goal.take_group-requires-clause-recorded
 unfolding effects_of next_group
-commit_group-requires-clause-recorded g c = (
-  effects_of g (goal.at.commit_group-requires-clause-recorded g c).After-stores_hold,
+take_group-requires-clause-recorded g c = (
+  effects_of g (goal.at.take_group-requires-clause-recorded g c).After-stores_hold,
   with_events (full_history c.prepare_group.new.self.core) c.args.events.now,
-  c.in_ok-record_group.ensures.recorded c.args.events.now (effects_of g (goal.at.commit_group-requires-clause-recorded g c).After-stores_hold) (recordable c.args.engine.now c.prepare_group.new.self (g.R.Rack.disk c.prepare_group.new.self.files.rack) c.args.events.now (meets g (goal.at.commit_group-requires-clause-recorded g c).After-stores_hold)
+  c.in_ok-record_group.ensures.recorded c.args.events.now (effects_of g (goal.at.take_group-requires-clause-recorded g c).After-stores_hold) (recordable c.args.engine.now c.prepare_group.new.self (g.R.Rack.disk c.prepare_group.new.self.files.rack) c.args.events.now (meets g (goal.at.take_group-requires-clause-recorded g c).After-stores_hold)
       c.prepare_group.ensures.step.core c.prepare_group.ensures.step.catalog c.in_ok-prepare_group.ensures.prepared),
 )
 
@@ -60,10 +59,10 @@ unfolding effects_of next_group
 returns-clause-committed g c =
     let recorded = c.in_ok-record_group.ensures.recorded c.args.events.now (effects_of g (goal.at.returns-clause-committed g c).After-stores_hold) (recordable c.args.engine.now c.prepare_group.new.self (g.R.Rack.disk c.prepare_group.new.self.files.rack) c.args.events.now (meets g (goal.at.returns-clause-committed g c).After-stores_hold)
     c.prepare_group.ensures.step.core c.prepare_group.ensures.step.catalog c.in_ok-prepare_group.ensures.prepared) in
-    subst (λ k. OnOk c.commit_group.result (IsGroupCommitted c.commit_group.new.self (g.R.Rack.disk c.commit_group.new.self.files.rack) (with_events (full_history k) c.args.events.now))) c.prepare_group.ensures.step.core
-    (c.commit_group.ensures.committed (effects_of g (goal.at.returns-clause-committed g c).After-stores_hold) (with_events (full_history c.prepare_group.new.self.core) c.args.events.now) recorded)
+    subst (λ k. IsGroupCommitted c.take_group.new.self (g.R.Rack.disk c.take_group.new.self.files.rack) (with_events (full_history k) c.args.events.now)) c.prepare_group.ensures.step.core
+    (c.take_group.ensures.committed (effects_of g (goal.at.returns-clause-committed g c).After-stores_hold) (with_events (full_history c.prepare_group.new.self.core) c.args.events.now) recorded)
 
--- each image of the first two steps
+-- each image of the two steps that write
 pub returns-in_err-record_group-clause-any_moment : goal.returns-in_err-record_group-clause-any_moment
 unfolding effects_of next_group
 returns-in_err-record_group-clause-any_moment g c told =
@@ -89,41 +88,33 @@ returns-clause-any_moment g c told =
     let e = c.args.engine.now in
     let prepared = c.prepare_group.ensures in
     let written = c.record_group.ensures in
-    let later = c.commit_group.ensures in
-    let may = recordable c.args.engine.now c.prepare_group.new.self (g.R.Rack.disk c.prepare_group.new.self.files.rack) c.args.events.now (meets g (goal.at.returns-clause-any_moment g c).After-stores_hold)
-    c.prepare_group.ensures.step.core c.prepare_group.ensures.step.catalog c.in_ok-prepare_group.ensures.prepared in
-    let recorded = c.in_ok-record_group.ensures.recorded c.args.events.now (effects_of g (goal.at.returns-clause-any_moment g c).After-stores_hold) may in
+    let may = recordable e c.prepare_group.new.self (g.R.Rack.disk c.prepare_group.new.self.files.rack) c.args.events.now (meets g (goal.at.returns-clause-any_moment g c).After-stores_hold)
+    prepared.step.core prepared.step.catalog c.in_ok-prepare_group.ensures.prepared in
     let told_one = prepared.rack.tells ∙ told in
-    let told_two = written.rack.tells ∙ told_one in
     let events = c.args.events.now in
     let disk_one = g.R.Rack.disk c.prepare_group.new.self.files.rack in
     let disk_two = g.R.Rack.disk c.record_group.new.self.files.rack in
-    let disk_three = g.R.Rack.disk c.commit_group.new.self.files.rack in
     let P = IsSoundForEither e.catalog (full_history e.core) (with_events (full_history e.core) events) in
-    images_of_three P (g.R.Rack.disk e.files.rack) disk_one disk_two disk_three
-    (prepared.rack.follow told) (written.rack.follow told_one) (later.rack.follow told_two)
+    subst (λ r. EachImage (g.R.Rack.disk r) (g.R.Rack.disk e.files.rack).moment P) (sym c.take_group.ensures.same.2)
+    (each_then disk_one disk_two (g.R.Rack.disk e.files.rack).moment P (prepared.rack.follow told).later (written.rack.follow told_one)
     (each_so disk_one (g.R.Rack.disk e.files.rack).moment (IsSound e.catalog (full_history e.core)) P (λ files sound. inl sound) (prepared.any_moment told))
     (subst (λ k. EachImage disk_two disk_one.moment (IsSoundForEither e.catalog (full_history k) (with_events (full_history k) events))) prepared.step.core
-    (subst (λ d. EachImage disk_two disk_one.moment (IsSoundForEither d (full_history c.prepare_group.new.self.core) (with_events (full_history c.prepare_group.new.self.core) events))) prepared.step.catalog (written.any_moment told_one events (effects_of g (goal.at.returns-clause-any_moment g c).After-stores_hold) may)))
-    (each_so disk_three disk_two.moment (IsSound e.catalog (with_events (full_history e.core) events)) P (λ files sound. inr sound)
-    (subst (λ k. EachImage disk_three disk_two.moment (IsSound e.catalog (with_events (full_history k) events))) prepared.step.core
-    (subst (λ d. EachImage disk_three disk_two.moment (IsSound d (with_events (full_history c.prepare_group.new.self.core) events))) (written.step.catalog ∙ prepared.step.catalog)
-    (later.any_moment told_two (effects_of g (goal.at.returns-clause-any_moment g c).After-stores_hold) (with_events (full_history c.prepare_group.new.self.core) events) recorded))))
+    (subst (λ d. EachImage disk_two disk_one.moment (IsSoundForEither d (full_history c.prepare_group.new.self.core) (with_events (full_history c.prepare_group.new.self.core) events))) prepared.step.catalog
+    (written.any_moment told_one events (effects_of g (goal.at.returns-clause-any_moment g c).After-stores_hold) may))))
 
 pub returns-clause-rack : goal.returns-clause-rack
-returns-clause-rack g c = record {
-  follow = λ told.
-      let start = g.R.Rack.disk c.args.engine.now.files.rack in
-      let one = g.R.Rack.disk c.prepare_group.new.self.files.rack in
-      let two = g.R.Rack.disk c.record_group.new.self.files.rack in
-      let three = g.R.Rack.disk c.commit_group.new.self.files.rack in
-      let told_one = c.prepare_group.ensures.rack.tells ∙ told in
-      let told_two = c.record_group.ensures.rack.tells ∙ told_one in
-      let told_three = c.commit_group.ensures.rack.tells ∙ told_two in
-      follow_then start two three (g.met.R.Rack.honest c.commit_group.new.self.files.rack told_three)
-      (follow_then start one two (g.met.R.Rack.honest c.record_group.new.self.files.rack told_two) (c.prepare_group.ensures.rack.follow told) (c.record_group.ensures.rack.follow told_one))
-      (c.commit_group.ensures.rack.follow told_two);
-  tells = c.commit_group.ensures.rack.tells ∙ (c.record_group.ensures.rack.tells ∙ c.prepare_group.ensures.rack.tells);
-  later = search rules;
-  fault = search rules;
-}
+returns-clause-rack g c =
+    let start = g.R.Rack.disk c.args.engine.now.files.rack in
+    let one = g.R.Rack.disk c.prepare_group.new.self.files.rack in
+    let two = g.R.Rack.disk c.record_group.new.self.files.rack in
+    let same = c.take_group.ensures.same.2 in
+    record {
+      follow = λ told.
+          let told_one = c.prepare_group.ensures.rack.tells ∙ told in
+          let told_two = c.record_group.ensures.rack.tells ∙ told_one in
+          subst (λ r. ImagesFollow start (g.R.Rack.disk r)) (sym same)
+          (follow_then start one two (g.met.R.Rack.honest c.record_group.new.self.files.rack told_two) (c.prepare_group.ensures.rack.follow told) (c.record_group.ensures.rack.follow told_one));
+      tells = ap (λ r. (g.R.Rack.disk r).tells) same ∙ (c.record_group.ensures.rack.tells ∙ c.prepare_group.ensures.rack.tells);
+      later = omega (arith, c.prepare_group.ensures.rack.later, c.record_group.ensures.rack.later, ap (λ r. g.R.Rack.faults r) same);
+      fault = search rules;
+    }

@@ -27,7 +27,7 @@ returns-in_err-put_on_disk-clause-any_moment g c = λ told.
     let old = c.args.stores.now.items in
     let mid = c.stage_effects.new.stores.items in
     each_so (g.R.Rack.disk c.put_on_disk.new.rack) (g.R.Rack.disk c.args.rack.now).moment (AreBeforeOrWith mid) (AreBeforeOrPrepared c.args.effects.now old)
-    (images_of_effects c.args.effects.now old mid c.stage_effects.ensures) (subst (λ ss. EachImage (g.R.Rack.disk c.put_on_disk.new.rack) (g.R.Rack.disk c.args.rack.now).moment (AreBeforeOrWith ss)) c.deref.ensures.value (c.put_on_disk.ensures.any_moment told))
+    (images_of_effects c.args.effects.now old mid c.stage_effects.ensures c.requires.may) (subst (λ ss. EachImage (g.R.Rack.disk c.put_on_disk.new.rack) (g.R.Rack.disk c.args.rack.now).moment (AreBeforeOrWith ss)) c.deref.ensures.value (c.put_on_disk.ensures.any_moment told))
 
 pub returns-in_err-put_on_disk-clause-others : goal.returns-in_err-put_on_disk-clause-others
 returns-in_err-put_on_disk-clause-others g c = λ told.
@@ -44,14 +44,14 @@ returns-in_err-put_on_disk-clause-fits g c =
 
 pub returns-clause-acknowledged : goal.returns-clause-acknowledged
 returns-clause-acknowledged g c = λ told.
-    effects_stand c.args.effects.now c.args.stores.now.items c.stage_effects.new.stores.items c.stage_effects.ensures c.take_effects.new.stores.items (g.R.Rack.disk c.put_on_disk.new.rack) (subst (λ ss. OfEach (λ t. HasStaged t (g.R.Rack.disk c.put_on_disk.new.rack)) ss) c.deref.ensures.value (c.in_ok-put_on_disk.ensures.staged told)) c.take_effects.ensures.takes
+    effects_stand c.args.effects.now c.args.stores.now.items c.stage_effects.new.stores.items c.stage_effects.ensures c.requires.may c.take_effects.new.stores.items (g.R.Rack.disk c.put_on_disk.new.rack) (subst (λ ss. OfEach (λ t. HasStaged t (g.R.Rack.disk c.put_on_disk.new.rack)) ss) c.deref.ensures.value (c.in_ok-put_on_disk.ensures.staged told)) c.take_effects.ensures.takes
 
 pub returns-clause-any_moment : goal.returns-clause-any_moment
 returns-clause-any_moment g c = λ told.
     let old = c.args.stores.now.items in
     let mid = c.stage_effects.new.stores.items in
     each_so (g.R.Rack.disk c.put_on_disk.new.rack) (g.R.Rack.disk c.args.rack.now).moment (AreBeforeOrWith mid) (AreBeforeOrPrepared c.args.effects.now old)
-    (images_of_effects c.args.effects.now old mid c.stage_effects.ensures) (subst (λ ss. EachImage (g.R.Rack.disk c.put_on_disk.new.rack) (g.R.Rack.disk c.args.rack.now).moment (AreBeforeOrWith ss)) c.deref.ensures.value (c.put_on_disk.ensures.any_moment told))
+    (images_of_effects c.args.effects.now old mid c.stage_effects.ensures c.requires.may) (subst (λ ss. EachImage (g.R.Rack.disk c.put_on_disk.new.rack) (g.R.Rack.disk c.args.rack.now).moment (AreBeforeOrWith ss)) c.deref.ensures.value (c.put_on_disk.ensures.any_moment told))
 
 pub returns-clause-others : goal.returns-clause-others
 returns-clause-others g c = λ told.

@@ -13,7 +13,7 @@ loop-place-preserved g c =
     let s = c.index_mut.result.now in
     let at : slice_get old.stores.items old.place ≡ Some s = slice_get_read old.stores.items _ old.place s (omega (arith, c.len.ensures, old.stores.ok)) c.loop-place-test.true c.index_mut.ensures.value in
     record {
-      changed = one_changed _ old.place c.args.stores.now.items old.stores.items s c.stage_commit.new.store at c.stage_commit.ensures old.invariant.changed;
+      changed = one_changed _ old.place c.args.stores.now.items old.stores.items s c.stage_commit.new.self at (record { log = c.stage_commit.ensures.log; account = c.stage_commit.ensures.same.0; owed = c.stage_commit.ensures.same.1 }) old.invariant.changed;
       within = omega (arith, c.loop-place-test.true, c.len.ensures);
     }
 

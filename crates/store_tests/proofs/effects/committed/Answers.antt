@@ -2,6 +2,7 @@ use Rattle.std.proofs.Common.{◌≡◌, ◌+◌, ◌++◌, ◌∷◌, [], List,
 use Rattle.std.specs.List.{slice_get}
 use Rattle.subsystem_store.specs.Opened.{Opened, Fits, account_of}
 use Rattle.store_group.proofs.InOrder.{of_became}
+use Rattle.store_group.proofs.Taken.{owing_stand}
 use Rattle.store_group.specs.Events.{effects_for, MayPrepare}
 use Rattle.store_tests.proofs.OneStore.{at_end, one_may, one_of}
 use Rattle.store_tests.proofs.effects.committed.Goals as goal
@@ -22,19 +23,26 @@ prepare_each-requires-clause-fits g c = λ q s at.
     let is = one_of c.make_room.new.self q s (subst (λ xs. slice_get xs q ≡ Some s) alone at) in
     subst (λ (x : Opened g.row.B.Denot). Fits g.B.Resource (account_of x)) (sym is.1) c.make_room.ensures.fits
 
-pub commit_each-requires-clause-order : goal.commit_each-requires-clause-order
-commit_each-requires-clause-order g c =
-    of_became _ (λ q t. t.log.file ≡ q + 1) c.push_reserved.new.self.items c.prepare_each.new.stores.items c.in-Ok-prepare_each.ensures.ok
+pub owe_each-requires : goal.owe_each-requires
+owe_each-requires g c = record { fits = c.prepare_each.ensures.fits }
+
+pub write_owed-requires-clause-order : goal.write_owed-requires-clause-order
+write_owed-requires-clause-order g c =
+    of_became _ (λ q t. t.log.file ≡ q + 1) c.prepare_each.new.stores.items c.owe_each.new.stores.items c.owe_each.ensures.owes
+    (λ q s t at by. ap (λ l. l.file) by.log
+    ∙ of_became _ (λ q t. t.log.file ≡ q + 1) c.push_reserved.new.self.items c.prepare_each.new.stores.items c.in-Ok-prepare_each.ensures.ok
     (λ q s t at by.
     let alone = c.push_reserved.ensures.items ∙ ap (λ (xs : List (Opened g.row.B.Denot)). xs ++ c.make_room.new.self ∷ []) c.in-Ok-with_capacity.ensures.items in
     let is = one_of c.make_room.new.self q s (subst (λ xs. slice_get xs q ≡ Some s) alone at) in
-    by.file ∙ (ap (λ (x : Opened g.row.B.Denot). x.log.file) is.1 ∙ (ap (λ l. l.file) c.make_room.ensures.same.0 ∙ (c.in-Ok.ensures.unused.0 ∙ sym (ap (λ n. n + 1) is.0)))))
+    by.file ∙ (ap (λ (x : Opened g.row.B.Denot). x.log.file) is.1 ∙ (ap (λ l. l.file) c.make_room.ensures.same.0 ∙ (c.in-Ok.ensures.unused.0 ∙ sym (ap (λ n. n + 1) is.0))))) q s at)
 
-pub commit_each-requires-clause-stand : goal.commit_each-requires-clause-stand
-commit_each-requires-clause-stand g c told = c.in-Ok-prepare_each.ensures.acknowledged (sym c.prepare_each.ensures.rack.tells ∙ told)
+pub write_owed-requires-clause-stand : goal.write_owed-requires-clause-stand
+write_owed-requires-clause-stand g c told =
+    owing_stand c.prepare_each.new.stores.items c.owe_each.new.stores.items (g.R.Rack.disk c.prepare_each.new.rack) c.owe_each.ensures.owes
+    (c.in-Ok-prepare_each.ensures.acknowledged (sym c.prepare_each.ensures.rack.tells ∙ told))
 
 pub returns : goal.returns
 returns g c = record {
-  fits = c.commit_each.ensures.fits (length c.pop.new.self.items) c.in-Some.store
+  fits = c.write_owed.ensures.fits (length c.pop.new.self.items) c.in-Some.store
       (subst (λ xs. slice_get xs (length c.pop.new.self.items) ≡ Some c.in-Some.store) (sym c.in-Some.ensures.items) (at_end c.pop.new.self.items c.in-Some.store));
 }

@@ -1,4 +1,4 @@
-use Rattle.std.proofs.Common.{◌∙◌, sym}
+use Rattle.std.proofs.Common.{◌∙◌, refl, sym}
 use Rattle.process_journal.specs.Bodies.{no_history}
 use Rattle.engine_steps.proofs.NewEngine.{new_rests, new_under, rest_unused}
 use Rattle.engine_steps.proofs.engines.Engine.create.Goals as goal
@@ -11,6 +11,9 @@ invariant_of-result g c =
       λ settled. new_rests c.args.catalog c.in-Ok.core c.in-Ok.ensures files (g.R.Rack.disk files.rack)
           (rest_unused c.calls_make_good_books.ensures.create c.args.catalog files (g.R.Rack.disk files.rack) made.made.count made.made.unused (λ told. made.stand (sym made.rack.tells ∙ told))),
     )
+
+pub returns-in-Ok-create-clause-new : goal.returns-in-Ok-create-clause-new
+returns-in-Ok-create-clause-new g c = record { core = c.in-Ok.ensures; catalog = refl; phase = refl; owes = λ q s at. (c.in-Ok-create.ensures.made.unused q s at).2 }
 
 pub returns-in-Ok-create-clause-rest : goal.returns-in-Ok-create-clause-rest
 returns-in-Ok-create-clause-rest g c =

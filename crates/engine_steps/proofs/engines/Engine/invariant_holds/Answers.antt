@@ -1,6 +1,7 @@
 use Rattle.std.proofs.Common.{◌≡◌, subst}
 use Rattle.process_disk.specs.Disk.{Told}
 use Rattle.process_disk.specs.Images.{EachImage}
+use Rattle.history_files.specs.Groups.{OwesNothing}
 use Rattle.history_files.specs.Sound.{IsSound}
 use Rattle.engine_steps.specs.Engines.{AreExactly, full_history}
 use Rattle.engine_steps.specs.declared.engines.Phase.TheVariants as phase
@@ -19,12 +20,12 @@ returns-clause-each g c =
 
 pub returns-clause-exactly : goal.returns-clause-exactly
 returns-clause-exactly g c =
-    subst (λ e. e.phase ≡ phase.Settled → Told (g.R.Rack.disk e.files.rack) → AreExactly e.catalog (full_history e.core) (g.R.Rack.disk e.files.rack).files) c.self.view_is
-    (λ settled told. let e = c.self.inside in
-    exactly_now e.catalog (full_history e.core) e.files (g.R.Rack.disk e.files.rack) c.soundness_holds.ensures.journal c.soundness_holds.ensures.stores (c.self.invariant.1 settled) told)
+    subst (λ e. e.phase ≡ phase.Settled → OwesNothing e.files.stores → Told (g.R.Rack.disk e.files.rack) → AreExactly e.catalog (full_history e.core) (g.R.Rack.disk e.files.rack).files) c.self.view_is
+    (λ settled owes told. let e = c.self.inside in
+    exactly_now e.catalog (full_history e.core) e.files (g.R.Rack.disk e.files.rack) c.soundness_holds.ensures.journal c.soundness_holds.ensures.stores (c.self.invariant.1 settled) owes told)
 
 pub returns-clause-exactly_each : goal.returns-clause-exactly_each
 returns-clause-exactly_each g c =
-    subst (λ e. e.phase ≡ phase.Settled → Told (g.R.Rack.disk e.files.rack) → EachImage (g.R.Rack.disk e.files.rack) (g.R.Rack.disk e.files.rack).moment (AreExactly e.catalog (full_history e.core))) c.self.view_is
-    (λ settled told. let e = c.self.inside in
-    exactly_each e.catalog (full_history e.core) e.files (g.R.Rack.disk e.files.rack) c.soundness_holds.ensures.journal c.soundness_holds.ensures.stores (c.self.invariant.1 settled) told)
+    subst (λ e. e.phase ≡ phase.Settled → OwesNothing e.files.stores → Told (g.R.Rack.disk e.files.rack) → EachImage (g.R.Rack.disk e.files.rack) (g.R.Rack.disk e.files.rack).moment (AreExactly e.catalog (full_history e.core))) c.self.view_is
+    (λ settled owes told. let e = c.self.inside in
+    exactly_each e.catalog (full_history e.core) e.files (g.R.Rack.disk e.files.rack) c.soundness_holds.ensures.journal c.soundness_holds.ensures.stores (c.self.invariant.1 settled) owes told)

@@ -12,6 +12,9 @@ engine_on-requires-clause-rest g c =
     let is = c.in-Ok.ensures in
     settled_rest c.in-Ok.catalog c.in-Ok.history c.in-Ok.files (g.R.Rack.disk c.in-Ok.files.rack) is.opened.count is.opened.settled is.opened.good (λ told. is.stand (sym is.rack.tells ∙ told))
 
+pub engine_on-requires-clause-owes : goal.engine_on-requires-clause-owes
+engine_on-requires-clause-owes g c = c.in-Ok.ensures.opened.owes
+
 pub returns-in-Ok-clause-rest : goal.returns-in-Ok-clause-rest
 returns-in-Ok-clause-rest g c =
     let is = c.in-Ok.ensures in

@@ -40,7 +40,7 @@ returns-clause-changes g c =
     let at = its_store g (goal.at.returns-clause-changes g c).After-index_mut in
     let same = c.make_room.ensures.same in
     changed c.self.inside.stores.items c.args.q c.from.result c.index_mut.result.now c.make_room.new.self c.from.ensures at MakesRoom _ (ap (λ f. f.stores) c.self.view_is)
-    (record { log = same.0; kind = same.1; book = same.2; doubt = same.3 })
+    (record { log = same.0; kind = same.1; book = same.2; doubt = same.3; owed = same.4 })
 
 pub returns-clause-ok : goal.returns-clause-ok
 returns-clause-ok g c =

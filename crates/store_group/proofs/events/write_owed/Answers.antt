@@ -1,11 +1,11 @@
 use Rattle.std.proofs.Common.{subst, sym}
 use Rattle.process_disk.specs.Images.{EachImage, RunBy}
 use Rattle.process_disk.proofs.Images.{each_so}
-use Rattle.store_group.specs.Events.{AreBeforeOrCommitted}
+use Rattle.store_group.specs.Events.{AreBeforeOrPaid}
 use Rattle.store_group.specs.Groups.{AllStand, AreBeforeOrWith, AreInOrder, HasStaged, OfEach, SameButStores}
 use Rattle.store_group.proofs.InOrder.{on_err}
-use Rattle.store_group.proofs.Taken.{commits_may_be_taken, commits_committed, commits_stand, commits_stand_still, commits_unchanged, fits_unchanged, images_of_commits, order_unchanged, run_unchanged}
-use Rattle.store_group.proofs.events.commit_each.Goals as goal
+use Rattle.store_group.proofs.Taken.{commits_may_be_taken, commits_paid, commits_stand, commits_stand_still, commits_unchanged, fits_paid, fits_unchanged, images_of_commits, order_unchanged, run_unchanged}
+use Rattle.store_group.proofs.events.write_owed.Goals as goal
 
 pub put_on_disk-requires-clause-order : goal.put_on_disk-requires-clause-order
 put_on_disk-requires-clause-order g c =
@@ -15,18 +15,14 @@ pub put_on_disk-requires-clause-stand : goal.put_on_disk-requires-clause-stand
 put_on_disk-requires-clause-stand g c = λ told.
     subst (λ ss. AllStand ss (g.R.Rack.disk c.args.rack.now)) (sym c.deref.ensures.value) (commits_stand_still c.args.stores.now.items c.stage_commits.new.stores.items c.stage_commits.ensures (g.R.Rack.disk c.args.rack.now) (c.requires.stand told))
 
-pub take_commits-requires-clause-may : goal.take_commits-requires-clause-may
-take_commits-requires-clause-may g c = commits_may_be_taken c.args.stores.now.items c.stage_commits.new.stores.items c.stage_commits.ensures
-
-pub take_commits-requires-clause-fits : goal.take_commits-requires-clause-fits
-take_commits-requires-clause-fits g c =
-    fits_unchanged c.args.stores.now.items c.stage_commits.new.stores.items (commits_unchanged c.args.stores.now.items c.stage_commits.new.stores.items c.stage_commits.ensures) g.B.Resource c.requires.fits
+pub take_commits-requires : goal.take_commits-requires
+take_commits-requires g c = record { may = commits_may_be_taken c.args.stores.now.items c.stage_commits.new.stores.items c.stage_commits.ensures }
 
 pub returns-in_err-put_on_disk-clause-any_moment : goal.returns-in_err-put_on_disk-clause-any_moment
 returns-in_err-put_on_disk-clause-any_moment g c = λ told.
     let old = c.args.stores.now.items in
     let mid = c.stage_commits.new.stores.items in
-    each_so (g.R.Rack.disk c.put_on_disk.new.rack) (g.R.Rack.disk c.args.rack.now).moment (AreBeforeOrWith mid) (AreBeforeOrCommitted old)
+    each_so (g.R.Rack.disk c.put_on_disk.new.rack) (g.R.Rack.disk c.args.rack.now).moment (AreBeforeOrWith mid) (AreBeforeOrPaid old)
     (images_of_commits old mid c.stage_commits.ensures) (subst (λ ss. EachImage (g.R.Rack.disk c.put_on_disk.new.rack) (g.R.Rack.disk c.args.rack.now).moment (AreBeforeOrWith ss)) c.deref.ensures.value (c.put_on_disk.ensures.any_moment told))
 
 pub returns-in_err-put_on_disk-clause-others : goal.returns-in_err-put_on_disk-clause-others
@@ -44,13 +40,13 @@ returns-in_err-put_on_disk-clause-fits g c =
 
 pub returns-clause-acknowledged : goal.returns-clause-acknowledged
 returns-clause-acknowledged g c = λ told.
-    commits_stand c.args.stores.now.items c.stage_commits.new.stores.items c.stage_commits.ensures c.take_commits.new.stores.items (g.R.Rack.disk c.put_on_disk.new.rack) (subst (λ ss. OfEach (λ t. HasStaged t (g.R.Rack.disk c.put_on_disk.new.rack)) ss) c.deref.ensures.value (c.in_ok-put_on_disk.ensures.staged told)) c.take_commits.ensures.takes
+    commits_stand c.args.stores.now.items c.stage_commits.new.stores.items c.stage_commits.ensures c.take_commits.new.stores.items (g.R.Rack.disk c.put_on_disk.new.rack) (subst (λ ss. OfEach (λ t. HasStaged t (g.R.Rack.disk c.put_on_disk.new.rack)) ss) c.deref.ensures.value (c.in_ok-put_on_disk.ensures.staged told)) c.take_commits.ensures
 
 pub returns-clause-any_moment : goal.returns-clause-any_moment
 returns-clause-any_moment g c = λ told.
     let old = c.args.stores.now.items in
     let mid = c.stage_commits.new.stores.items in
-    each_so (g.R.Rack.disk c.put_on_disk.new.rack) (g.R.Rack.disk c.args.rack.now).moment (AreBeforeOrWith mid) (AreBeforeOrCommitted old)
+    each_so (g.R.Rack.disk c.put_on_disk.new.rack) (g.R.Rack.disk c.args.rack.now).moment (AreBeforeOrWith mid) (AreBeforeOrPaid old)
     (images_of_commits old mid c.stage_commits.ensures) (subst (λ ss. EachImage (g.R.Rack.disk c.put_on_disk.new.rack) (g.R.Rack.disk c.args.rack.now).moment (AreBeforeOrWith ss)) c.deref.ensures.value (c.put_on_disk.ensures.any_moment told))
 
 pub returns-clause-others : goal.returns-clause-others
@@ -60,4 +56,8 @@ returns-clause-others g c = λ told.
     run_unchanged old mid (commits_unchanged old mid c.stage_commits.ensures) (g.R.Rack.disk c.args.rack.now) (g.R.Rack.disk c.put_on_disk.new.rack) (subst (λ ss. RunBy (SameButStores ss) (g.R.Rack.disk c.args.rack.now) (g.R.Rack.disk c.put_on_disk.new.rack)) c.deref.ensures.value (c.put_on_disk.ensures.others told))
 
 pub returns-clause-ok : goal.returns-clause-ok
-returns-clause-ok g c = commits_committed c.args.stores.now.items c.stage_commits.new.stores.items c.stage_commits.ensures c.take_commits.new.stores.items c.take_commits.ensures.takes
+returns-clause-ok g c = commits_paid c.args.stores.now.items c.stage_commits.new.stores.items c.stage_commits.ensures c.take_commits.new.stores.items c.take_commits.ensures
+
+pub returns-clause-fits : goal.returns-clause-fits
+returns-clause-fits g c =
+    fits_paid c.args.stores.now.items c.take_commits.new.stores.items (commits_paid c.args.stores.now.items c.stage_commits.new.stores.items c.stage_commits.ensures c.take_commits.new.stores.items c.take_commits.ensures) g.B.Resource c.requires.fits
