@@ -1,9 +1,11 @@
-use Rattle.std.proofs.Common.{◌∙◌, ap, sym, arith, map, rules}
+use Rattle.std.proofs.Common.{Err, ◌≡◌, ◌≢◌, ◌⊎◌, inl, inr, ◌∙◌, ap, sym, arith, map, rules}
 use Rattle.std.specs.Prelude.{reverse}
 use Rattle.std.proofs.lemmas.List.{reverse-reverse}
 use Rattle.process_disk.specs.Disk.{file_of}
 use Rattle.process_disk.proofs.Images.{follow_then}
 use Rattle.process_journal.specs.Bodies.{journal_bodies, no_history}
+use Rattle.history_files.specs.declared.faults.CreateError.{CreateError}
+use Rattle.history_files.specs.declared.faults.CreateError.TheVariants.{DiskFault as Fault, NoMemory}
 use Rattle.history_files.proofs.Clearing.{map_reverse}
 use Rattle.history_files.proofs.MadeStores.{follow_thrice}
 use Rattle.history_files.proofs.UsedFiles.{none_used, unused_left}
@@ -46,6 +48,16 @@ returns-in-Ok-make_stores-clause-empty g c told = sym (c.in-Ok-None.ensures.foun
 pub returns-in-Ok-make_stores-clause-good : goal.returns-in-Ok-make_stores-clause-good
 returns-in-Ok-make_stores-clause-good g c = unused_are_good c.calls_make_good_books.ensures.create c.in-Ok-make_stores.stores.items c.in-Ok-make_stores.ensures.unused
 
+-- a journal's refusal that isn't for want of memory is a fault
+is_fault : {why : CreateError} → (why ≡ Fault) ⊎ (why ≡ NoMemory) → why ≢ NoMemory → why ≡ Fault
+is_fault (inl fault) other = fault
+is_fault (inr memory) other = absurd (other memory)
+
+pub returns-in-Err-create-clause-left : goal.returns-in-Err-create-clause-left
+returns-in-Err-create-clause-left g c told =
+    unused_left c.of_journal.result (g.R.Rack.disk c.args.rack.now) (g.R.Rack.disk c.create.new.rack)
+    (λ other. (is_fault c.of_journal.ensures.either other, is_fault c.of_journal.ensures.either other)) (sym (c.in-Ok-None.ensures.found told) ∙ c.in-Ok-None.field-0-is)
+
 pub returns-in-Err-create-clause-rack : goal.returns-in-Err-create-clause-rack
 returns-in-Err-create-clause-rack g c = record {
   follow = λ told.
@@ -54,7 +66,10 @@ returns-in-Err-create-clause-rack g c = record {
       (c.in-Ok-None.ensures.all told).follow (c.in-Err-create.ensures.others told_first).follow;
   tells = search rules;
   later = search rules;
-  fault = search rules;
+  fault = λ same.
+      let is : c.of_journal.result ≡ Fault = cc in
+      let fault = c.in-Err-create.ensures.rack.fault (ap Err (c.in-Err-create.ensures.err.refused (c.of_journal.ensures.memory is))) in
+      omega (arith, c.in-Ok-None.ensures.rack.later, fault);
 }
 
 pub returns-in-Err-make_stores-clause-rack : goal.returns-in-Err-make_stores-clause-rack
@@ -67,7 +82,10 @@ returns-in-Err-make_stores-clause-rack g c = record {
       (c.in-Ok-None.ensures.all told).follow (c.in-Ok-create.ensures.others told_first).follow (c.in-Err-make_stores.ensures.rack.follow told_made);
   tells = search rules;
   later = search rules;
-  fault = search rules;
+  fault = λ same.
+      let is : c.in-Err-make_stores.why ≡ Fault = cc in
+      let fault = c.in-Err-make_stores.ensures.rack.fault (ap Err is) in
+      omega (arith, c.in-Ok-None.ensures.rack.later, c.in-Ok-create.ensures.rack.later, fault);
 }
 
 pub returns-in-Ok-make_stores-clause-rack : goal.returns-in-Ok-make_stores-clause-rack
