@@ -46,3 +46,10 @@ returns-in-Err-open_stores-clause-all g c told =
     all_then (g.R.Rack.disk c.args.rack.now) (g.R.Rack.disk c.open.new.rack) (g.R.Rack.disk c.open_stores.new.rack)
     (g.met.R.Rack.honest c.open.new.rack told_mid) (g.met.R.Rack.honest c.open_stores.new.rack (c.in-Err-open_stores.ensures.rack.tells ∙ told_mid))
     (c.in-Ok-open.ensures.all told) (c.in-Err-open_stores.ensures.all told_mid)
+
+pub returns-in-Ok-open_stores-clause-rack : goal.returns-in-Ok-open_stores-clause-rack
+returns-in-Ok-open_stores-clause-rack g c = record {
+  tells = c.in-Ok-open_stores.ensures.rack.tells ∙ c.in-Ok-open.ensures.rack.tells;
+  later = omega (arith, c.in-Ok-open.ensures.rack.later, c.in-Ok-open_stores.ensures.rack.later);
+  fault = λ same. absurd cc;
+}
