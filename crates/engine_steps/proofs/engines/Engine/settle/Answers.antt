@@ -1,9 +1,11 @@
-use Rattle.std.proofs.Common.{◌≡◌, ◌∙◌, subst, sym}
+use Rattle.std.proofs.Common.{◌≡◌, ◌∙◌, refl, ap, subst, sym}
+use Rattle.std.proofs.lemmas.Bool.{false≢true}
+use Rattle.history_files.specs.Groups.{OwesNothing}
 use Rattle.process_disk.specs.Disk.{Told}
 use Rattle.process_disk.specs.Images.{EachImage}
 use Rattle.history_files.specs.Sound.{IsSound}
-use Rattle.history_files.specs.Standing.{EachFits}
-use Rattle.engine_steps.specs.Engines.{full_history}
+use Rattle.history_files.specs.Standing.{EachFits, FilesState}
+use Rattle.engine_steps.specs.Engines.{EngineState, full_history}
 use Rattle.engine_steps.specs.declared.engines.Phase.TheVariants as phase
 use Rattle.engine_steps.proofs.GroupSteps.{owes_nothing, rest_paid}
 use Rattle.engine_steps.proofs.engines.Engine.settle.Goals as goal
@@ -44,3 +46,18 @@ returns-in-Err-clause-any_moment g c =
     let rest = c.self.invariant.1 (subst (λ x. x.phase ≡ phase.Settled) (sym c.self.view_is) c.requires.settled) in
     subst (λ x. Told (g.R.Rack.disk x.files.rack) → EachImage (g.R.Rack.disk c.write_owed.new.self.rack) (g.R.Rack.disk x.files.rack).moment (IsSound x.catalog (full_history x.core))) c.self.view_is
     (λ told. c.write_owed.ensures.any_moment told c.self.inside.catalog (full_history c.self.inside.core) (rest.stand told))
+
+-- an engine with these files
+abbrev with_files : {R B : Type 0} → EngineState R B → FilesState R B → EngineState R B
+with_files e files = record { core = e.core; catalog = e.catalog; files = files; phase = e.phase }
+
+pub returns-in-Ok-clause-none : goal.returns-in-Ok-clause-none
+returns-in-Ok-clause-none g c owes =
+    let e : EngineState g.row.R.Denot g.row.B.Denot = record { core = c.self.inside.core; catalog = c.self.inside.catalog; files = c.self.inside.files; phase = c.self.inside.phase } in
+    let nothing = subst (λ x. OwesNothing x.files.stores) (sym c.self.view_is) owes in
+    (refl, ap (with_files e) (c.in-Ok.ensures.none nothing).1 ∙ c.self.view_is)
+
+pub returns-in-Err-clause-none : goal.returns-in-Err-clause-none
+returns-in-Err-clause-none g c owes =
+    let nothing = subst (λ x. OwesNothing x.files.stores) (sym c.self.view_is) owes in
+    absurd (false≢true (c.in-Err.ensures.none nothing).0)
