@@ -4,6 +4,7 @@ use Rattle.std.proofs.lemmas.List.{take-append-le}
 use Rattle.process_disk.specs.declared.rack.Rack.{Ghosts as Racks}
 use Rattle.process_disk.specs.Disk.{FileSet, IsHonest, Told}
 use Rattle.process_disk.specs.Images.{EachImage}
+use Rattle.process_disk.specs.Racks.{LeavesImages}
 use Rattle.process_disk.proofs.Images.{follow_none, follow_then, still_told}
 use Rattle.process_tree.specs.declared.plan.Plan.{Plan}
 use Rattle.schedule_model.specs.declared.event.Event.{Event}
@@ -61,6 +62,28 @@ module _ {R B : Type 0} (racks : Racks R) (may_start : List Plan) where
     later = omega arith;
     follow = λ told. follow_none (racks.disk e.files.rack);
     images = λ told. record { has = λ files left. inl (sound_now e.catalog e.core core.session.one_each files ((each told).has files left)) };
+  }
+
+  -- by a call that writes to its files what it owes them,
+  pub goes_settled : {Failed : Type 0} (old new : EngineState R B) → IsCore old.core → new.core ≡ old.core → new.catalog ≡ old.catalog → LeavesImages racks old.files.rack new.files.rack Failed
+      → (Told (racks.disk old.files.rack) → EachImage (racks.disk new.files.rack) (racks.disk old.files.rack).moment (IsSound old.catalog (full_history old.core))) → GoesOn racks may_start old new
+  goes_settled old new core same catalog leaves each = record {
+    catalog = catalog;
+    conflicts = ap (λ (k : CoreState). k.conflicts) same;
+    opening = ap (λ (k : CoreState). k.opening) same;
+    added = [];
+    kept = ap (λ (k : CoreState). k.kept) same ∙ sym (append-nil old.core.kept);
+    started = [];
+    plans = ap (λ (k : CoreState). k.plans) same ∙ sym (append-nil old.core.plans);
+    came = [];
+    events = ap history_of same ∙ sym (append-nil (history_of old.core));
+    tells = leaves.tells;
+    later = leaves.later;
+    follow = leaves.follow;
+    images = λ told. record {
+      has = λ files left. inl (subst (λ c. IsSound c (beginning (full_history new.core) (history_of old.core)) files) (sym catalog)
+          (subst (λ k. IsSound old.catalog (beginning (full_history k) (history_of old.core)) files) (sym same) (sound_now old.catalog old.core core.session.one_each files ((each told).has files left))));
+    };
   }
 
   -- and by one run of calls after another that left it settled.

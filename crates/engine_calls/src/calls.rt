@@ -1,5 +1,5 @@
 // The calls of a settled engine.
-ghost use Rattle.std.specs.Prelude.{◌≡◌, ◌≢◌, List, IfOk, IfErr, OnOk};
+ghost use Rattle.std.specs.Prelude.{◌≡◌, ◌≢◌, List, IfOk, IfErr, IsErr, OnErr, OnOk};
 ghost use Rattle.process_flow.specs.Causes.{Rose};
 ghost use Rattle.process_tree.specs.declared.plan.Plan.{Plan as Plan'};
 ghost use Rattle.schedule_model.specs.Course.{course_of};
@@ -9,6 +9,7 @@ ghost use Rattle.process_core.specs.Answers.{after_call, after_start, answer_in}
 ghost use Rattle.process_core.specs.Cores.{IsHandedBy};
 ghost use Rattle.process_core.specs.Handing.{admit_reply_of};
 ghost use Rattle.process_core.specs.Rotation.{next_reply_of};
+ghost use Rattle.history_files.specs.Groups.{OwesNothing};
 ghost use Rattle.history_files.specs.Standing.{EachFits};
 ghost use Rattle.engine_steps.specs.Beginning.{IsFault, IsNotStarted, IsPlanFor};
 ghost use Rattle.engine_steps.specs.Engines.{with_core};
@@ -16,8 +17,9 @@ ghost use Rattle.process_engine.specs.Finishing.{Finishes, is_barred, outcome_of
 ghost use Rattle.engine_steps.specs.declared.engines.Phase.TheVariants as phase;
 ghost use Rattle.engine_calls.specs.GateAnswers.{IsAdmitted, IsGiven};
 ghost use Rattle.engine_calls.specs.Acknowledged.{IsOneOf};
-ghost use Rattle.engine_calls.specs.Runs.{GoesOn, GoesOnAlone, IsReady};
+ghost use Rattle.engine_calls.specs.Runs.{GoesOn, GoesOnAlone, IsClosedByFault, IsReady};
 
+use gate_log::DiskFault;
 use process_core::{Aborted, Admit, Next, Piece};
 use process_disk::Rack;
 use process_engine::{Answer, Closed, Engine, EngineStart, Finish, finish_piece};
@@ -139,4 +141,19 @@ pub fn finish<R: Rack + Drop, B: Resource>(
     let result = finish_piece(engine, piece, answer);
     engine.invariant_holds();
     result
+}
+
+/// Writes the commits that are owed to the stores' files, so that nothing is in doubt in them. After a fault of the rack the engine
+/// is closed.
+pub fn settle<R: Rack + Drop, B: Resource>(engine: &mut Engine<R, B>) -> Result<(), DiskFault>
+    requires ready { IsReady B.Resource engine.old }
+    ensures core { engine.new.core ≡ engine.old.core }
+    ensures owes { OnOk result (OwesNothing engine.new.files.stores) }
+    ensures fault { OnErr result (IsClosedByFault R.Rack engine.old engine.new) }
+    ensures goes { GoesOnAlone R.Rack engine.old engine.new }
+    ensures ready { OnOk result (IsReady B.Resource engine.new) }
+    ensures fits { EachFits B.Resource engine.new.files.stores }
+{
+    engine.invariant_holds();
+    engine.settle()
 }

@@ -10,6 +10,6 @@ mod calls;
 mod groups;
 mod working;
 
-pub use calls::{abort, admit, complete_all, finish, next, start};
+pub use calls::{abort, admit, complete_all, finish, next, settle, start};
 pub use groups::{flush, queue};
 pub use working::work;

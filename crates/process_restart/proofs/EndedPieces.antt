@@ -1,5 +1,6 @@
 -- The end of a piece: what is kept of it, what comes of the history, and whether more is completed.
 use Rattle.std.proofs.Common.{◌≡◌, ◌≢◌, ◌∙◌, ◌⊎◌, inl, inr, ℕ, Some, None, refl, ap, sym}
+use Rattle.std.specs.Prelude.{OnSome}
 use Rattle.process_disk.specs.Disk.{Disk}
 use Rattle.process_tree.specs.declared.play.Outcome.{Outcome}
 use Rattle.process_tree.specs.declared.play.Outcome.TheVariants.{Refused as Fails}
@@ -66,14 +67,14 @@ module _ {R B : Type 0} (disk : R → Disk) (mid new : EngineState R B) (d : Han
   history_by (NoMemory q) fin = inl (ap full_history fin.left.0.core)
   history_by (Closed k) fin = absurd fin.reply
 
-  -- a fault keeps nothing
-  pub left_by_fault : (a : Finish) → failure_of a ≡ Some completions.DiskFault → Finishes disk mid new d outcome a → new.core ≡ mid.core
-  left_by_fault DiskFault failed fin = fin.left.core
-  left_by_fault (NoMemory q) failed fin = absurd cc
-  left_by_fault (Effected k) failed fin = absurd cc
-  left_by_fault (Retry k) failed fin = absurd cc
-  left_by_fault Failed failed fin = absurd cc
-  left_by_fault Exhausted failed fin = absurd cc
-  left_by_fault Over failed fin = absurd cc
-  left_by_fault (Dropped k) failed fin = absurd cc
-  left_by_fault (Closed k) failed fin = absurd cc
+  -- what is completed no further keeps nothing
+  pub left_by_failure : (a : Finish) (P : Type 0) → Finishes disk mid new d outcome a → (new.core ≡ mid.core → P) → OnSome (failure_of a) P
+  left_by_failure DiskFault P fin so = so fin.left.core
+  left_by_failure (NoMemory q) P fin so = so fin.left.0.core
+  left_by_failure (Effected k) P fin so = tt
+  left_by_failure (Retry k) P fin so = tt
+  left_by_failure Failed P fin so = tt
+  left_by_failure Exhausted P fin so = tt
+  left_by_failure Over P fin so = tt
+  left_by_failure (Dropped k) P fin so = tt
+  left_by_failure (Closed k) P fin so = tt

@@ -1,5 +1,5 @@
 -- What became of files that were opened on their history, which was then completed as far as it went.
-use Rattle.std.proofs.Common.{◌≡◌, ◌∙◌, ◌≤◌, List, [], refl, subst, sym, arith}
+use Rattle.std.proofs.Common.{◌≡◌, ◌≢◌, ◌∙◌, ◌≤◌, List, [], refl, subst, sym, arith}
 use Rattle.process_flow.specs.Causes.{Rose}
 use Rattle.process_disk.specs.declared.rack.Rack.{Ghosts as Racks}
 use Rattle.process_disk.specs.Racks.{LeavesRack}
@@ -13,6 +13,7 @@ use Rattle.process_core.specs.Cores.{CoreState, IsCore}
 use Rattle.history_opening.specs.declared.faults.OpenError.{OpenError}
 use Rattle.history_opening.specs.declared.faults.OpenError.TheVariants as errors
 use Rattle.history_opening.specs.Images.{BecomesSound}
+use Rattle.history_files.specs.Groups.{OwesNothing}
 use Rattle.history_files.specs.Sound.{IsSound}
 use Rattle.engine_steps.specs.Engines.{AreExactly, EngineState, full_history}
 use Rattle.engine_steps.specs.declared.engines.Phase.{Phase}
@@ -49,8 +50,9 @@ module _ {R B : Type 0} (r : Racks R) (honest : (rack : R) → Told (r.disk rack
     (under_way : completion ≡ DiskFault → IsNextUnderWay (full_history opening.core) now.core)
     (read : now.phase ≡ Settled → Told (r.disk now.files.rack) → IsSound now.catalog (full_history now.core) (r.disk now.files.rack).files)
     (each : now.phase ≡ Settled → Told (r.disk now.files.rack) → EachImage (r.disk now.files.rack) (r.disk now.files.rack).moment (IsSound now.catalog (full_history now.core)))
-    (exactly : now.phase ≡ Settled → Told (r.disk now.files.rack) → AreExactly now.catalog (full_history now.core) (r.disk now.files.rack).files)
-    (exactly_each : now.phase ≡ Settled → Told (r.disk now.files.rack) → EachImage (r.disk now.files.rack) (r.disk now.files.rack).moment (AreExactly now.catalog (full_history now.core))) where
+    (owes : completion ≢ DiskFault → OwesNothing now.files.stores)
+    (exactly : now.phase ≡ Settled → OwesNothing now.files.stores → Told (r.disk now.files.rack) → AreExactly now.catalog (full_history now.core) (r.disk now.files.rack).files)
+    (exactly_each : now.phase ≡ Settled → OwesNothing now.files.stores → Told (r.disk now.files.rack) → EachImage (r.disk now.files.rack) (r.disk now.files.rack).moment (AreExactly now.catalog (full_history now.core))) where
   abbrev c : Catalog
   c = opening.catalog
 
@@ -88,12 +90,21 @@ module _ {R B : Type 0} (r : Racks R) (honest : (rack : R) → Told (r.disk rack
     each = one_ahead.each;
   }
 
+  owed_by : now.phase ≡ Settled → OwesNothing now.files.stores
+  owed_by on = owes (λ failed. settled_or_closed now.phase on (closed_at now.phase completion outcome failed))
+    where
+      closed_at : (p : Phase) (r : Completion) → IsOutcome (full_history opening.core) now.core p r → r ≡ DiskFault → p ≡ Closed
+      closed_at p Ended is failed = absurd cc
+      closed_at p (Exhausted process step) is failed = absurd cc
+      closed_at p DiskFault is failed = is
+      closed_at p NoMemory is failed = absurd cc
+
   is_restart : IsRestart gate c h now.core now.phase (r.disk entry) after
   is_restart = record {
     completing = completing;
     kept = kept;
-    read = λ on told. subst (λ d. AreExactly d (full_history now.core) after.files) goes.catalog (exactly on (told_now told));
-    each = λ on told. subst (λ d. EachImage after after.moment (AreExactly d (full_history now.core))) goes.catalog (exactly_each on (told_now told));
+    read = λ on told. subst (λ d. AreExactly d (full_history now.core) after.files) goes.catalog (exactly on (owed_by on) (told_now told));
+    each = λ on told. subst (λ d. EachImage after after.moment (AreExactly d (full_history now.core))) goes.catalog (exactly_each on (owed_by on) (told_now told));
   }
 
   -- It is a restart on the files.

@@ -1,7 +1,7 @@
 -- What is under way where a piece was handed out in turn: the next event of the completion.
 use Rattle.std.proofs.Common.{◌≡◌, ◌∙◌, ℕ, eqb, List, [], ◌∷◌, ◌++◌, length, map, take, ⊎_elim, refl, ap, subst, sym, append-nil, arith}
 use Rattle.std.proofs.Math.Bool.{or-false}
-use Rattle.std.proofs.lemmas.Bool.{eqb-false, eqb-true, or_parts}
+use Rattle.std.proofs.lemmas.Bool.{false≢true, eqb-false, eqb-true, or_parts}
 use Rattle.std.proofs.lemmas.List.{take_all}
 use Rattle.std.proofs.lemmas.Option.{same_Some}
 use Rattle.std.specs.List.{Contains, list_any}
@@ -34,6 +34,22 @@ use Rattle.process_restart.proofs.InTurn.{KeepsMore}
 -- no plan is among none
 none_listed : (p : Plan) → Contains [] p → ⊥
 none_listed p (k, within, is) = omega (arith, within)
+
+nothing_out : (core : CoreState) → (moment_of core).out ≡ [] → (p : Piece) → state_of (moment_of core) p.number ≡ Out → ⊥
+nothing_out core idle p out =
+    let running = out_runs (runs (moment_of core) p.number) (dropped_at (moment_of core) p.number) out in
+    absurd (false≢true (ap (λ ps. list_any (λ (q : Piece). eqb q.number p.number) ps) (sym idle) ∙ running))
+
+-- Where no piece is out, nothing is under way.
+pub nothing_under_way : (h : History) (core : CoreState) → (moment_of core).out ≡ [] → IsNextUnderWay h core
+nothing_under_way h core idle next under = ⊎_elim
+    (λ out. absurd (nothing_out core idle out.0 out.2))
+    (λ more. ⊎_elim (λ start. absurd (none_listed start.1.0 start.1.1)) (λ group. absurd (no_group group.0 group.1)) more)
+    under
+  where
+    no_group : (ps : List Piece) → AreOut core ps → ⊥
+    no_group [] out = absurd (out.some refl)
+    no_group (p ∷ ps) out = nothing_out core idle p out.out.0.out
 
 no_start : (courses : List Course) (i b : ℕ) (w : Work) → starts (event_by courses i b w ∷ []) ≡ []
 no_start courses i b Forward = refl

@@ -1,5 +1,6 @@
 -- One turn: a piece is handed out in turn, a gate works on it, and it ends.
 use Rattle.std.proofs.Common.{◌≡◌, ◌≢◌, ◌∙◌, ◌⊎◌, inl, inr, ◌≤◌, ◌<◌, ℕ, Bool, true, false, not, List, [], ◌∷◌, ◌++◌, length, Option, Some, None, if◌then◌else◌, refl, ap, subst, sym, append_assoc, length-append, arith}
+use Rattle.std.specs.Prelude.{OnSome}
 use Rattle.std.proofs.lemmas.Bool.{false≢true}
 use Rattle.process_disk.specs.declared.rack.Rack.{Ghosts as Racks}
 use Rattle.process_disk.specs.Disk.{IsHonest, Told}
@@ -38,11 +39,10 @@ use Rattle.worker_gate.proofs.AloneTurns.{idle_after}
 use Rattle.worker_gate.proofs.IdleMoments.{moment_with}
 use Rattle.worker_gate.proofs.RanRuns.{OnlyRuns, is_end, no_end, no_steps_ended, only_then, only_work, steps-append}
 use Rattle.process_restart.specs.Completing.{AreInTurn, IsNextHistory, IsNextUnderWay}
-use Rattle.process_restart.specs.declared.completing.Completion.TheVariants as completions
 use Rattle.process_restart.specs.Turns.{IsAtTurn, IsHandedInTurn, RanInTurn, failure_of}
 use Rattle.process_restart.proofs.Begun.{all_active_before, begun_still}
 use Rattle.process_restart.proofs.Completed.{next_event, same_completed}
-use Rattle.process_restart.proofs.EndedPieces.{ends_in_turn, history_by, left_by_fault, no_failure}
+use Rattle.process_restart.proofs.EndedPieces.{ends_in_turn, history_by, left_by_failure, no_failure}
 use Rattle.process_restart.proofs.InTurn.{KeepsMore}
 use Rattle.process_restart.proofs.UnderWay.{alone, event_is, next_under_way}
 use Rattle.resource_box.specs.declared.resource.Resource.{Ghosts as Resources}
@@ -90,12 +90,11 @@ module _ {R B : Type 0} (racks : Racks R) (box : Resources B) (old mid new : Eng
   completed_by (inl same) = completed_alike (full_history new.core) (full_history old.core) (same ∙ same_history)
   completed_by (inr more') = completed_alike (full_history new.core) (history_with mid.core d.piece) more' ∙ with_event_same
 
-  -- Where a call of the rack failed, the next event of the completion was under way.
-  pub under_way : failure_of a ≡ Some completions.DiskFault → IsNextUnderWay (full_history old.core) new.core
-  under_way failed next under =
-      let left = left_by_fault racks.disk mid new d outcome a failed fin in
-      subst (λ c. IsNextHistory (full_history old.core) c next) (sym left)
-      (next_under_way old.core mid.core core at.begun at.idle i d in_turn more same_history given next (subst (λ c. IsUnderWay [] c next) left under))
+  -- Where nothing more is completed, the next event of the completion was under way.
+  pub under_way : OnSome (failure_of a) (IsNextUnderWay (full_history old.core) new.core)
+  under_way = left_by_failure racks.disk mid new d outcome a (IsNextUnderWay (full_history old.core) new.core) fin
+      (λ left next under. subst (λ c. IsNextHistory (full_history old.core) c next) (sym left)
+      (next_under_way old.core mid.core core at.begun at.idle i d in_turn more same_history given next (subst (λ c. IsUnderWay [] c next) left under)))
 
   module _ (answers : Handed → Option Answer) (before after : GateCounts) (settled : mid.phase ≡ phase.Settled) (mid_core : IsCore mid.core) (honest : Told (racks.disk new.files.rack) → IsHonest (racks.disk new.files.rack))
       (by_gate : IsByGate (gate_from answers before after) mid.catalog mid.core new.core)

@@ -1,6 +1,7 @@
 // The history of an engine is completed.
-ghost use Rattle.std.specs.Prelude.{◌≡◌, ◌<◌, ◌+◌, length, IfSome, Some, None};
+ghost use Rattle.std.specs.Prelude.{◌≡◌, ◌≢◌, ◌<◌, ◌+◌, length, IfSome, OnSome, Some, None};
 ghost use Rattle.process_flow.specs.Causes.{Rose};
+ghost use Rattle.history_files.specs.Groups.{OwesNothing};
 ghost use Rattle.history_files.specs.Standing.{EachFits};
 ghost use Rattle.engine_steps.specs.Engines.{full_history};
 ghost use Rattle.engine_steps.specs.Opening.{IsOpened};
@@ -9,7 +10,7 @@ ghost use Rattle.engine_calls.specs.Runs.{GoesOnAlone};
 ghost use Rattle.process_restart.specs.Completing.{IsCompleting, IsNextUnderWay, IsOutcome};
 ghost use Rattle.process_restart.specs.Turns.{HaveEnded, IsAskedNext, IsAtTurn, RanInTurn, failure_of};
 
-use engine_calls::{admit, complete_all, work};
+use engine_calls::{admit, complete_all, settle, work};
 use process_core::Admit;
 use process_disk::Rack;
 use process_engine::{Engine, Finish, Gate};
@@ -60,7 +61,7 @@ fn turn<R: Rack + Drop, B: Resource, G: Gate>(
     requires at { IsAtTurn B.Resource engine.old ended.old }
     ensures ran { RanInTurn R.Rack (asked G.Gate gate.old gate.new) engine.old engine.new }
     ensures outcome { IfSome result (IsOutcome (full_history engine.old.core) engine.new.core engine.new.phase) }
-    ensures under_way { result ≡ Some Completion.DiskFault → IsNextUnderWay (full_history engine.old.core) engine.new.core }
+    ensures under_way { OnSome result (IsNextUnderWay (full_history engine.old.core) engine.new.core) }
     ensures fault { result ≡ Some Completion.DiskFault → Rose (R.faults engine.old.files.rack) (R.faults engine.new.files.rack) }
     ensures at { result ≡ None → IsAtTurn B.Resource engine.new ended.new }
     ensures more { result ≡ None → length engine.old.core.kept + ended.old < length engine.new.core.kept + ended.new }
@@ -83,10 +84,8 @@ fn turn<R: Rack + Drop, B: Resource, G: Gate>(
     }
 }
 
-/// Completes the history of an engine that was opened and on which nothing was called: all active processes begin to complete, and
-/// piece after piece is handed out in the order of the completion. The gate works on one after another; the end of a process asks
-/// no gate.
-pub fn complete<R: Rack + Drop, B: Resource, G: Gate>(
+// All active processes begin to complete, and piece after piece is handed out in the order of the completion.
+fn take_turns<R: Rack + Drop, B: Resource, G: Gate>(
     engine: &mut Engine<R, B>,
     gate: &mut G,
 ) -> Completion
@@ -96,7 +95,7 @@ pub fn complete<R: Rack + Drop, B: Resource, G: Gate>(
     ensures completing { IsCompleting (asked G.Gate gate.old gate.new) engine.old.catalog (full_history engine.old.core)
         engine.new.core }
     ensures outcome { IsOutcome (full_history engine.old.core) engine.new.core engine.new.phase result }
-    ensures under_way { result ≡ Completion.DiskFault → IsNextUnderWay (full_history engine.old.core) engine.new.core }
+    ensures under_way { IsNextUnderWay (full_history engine.old.core) engine.new.core }
     ensures fault { result ≡ Completion.DiskFault → Rose (R.faults engine.old.files.rack) (R.faults engine.new.files.rack) }
     ensures fits { EachFits B.Resource engine.new.files.stores }
 {
@@ -110,5 +109,34 @@ pub fn complete<R: Rack + Drop, B: Resource, G: Gate>(
         if let Some(completion) = completion {
             return completion;
         }
+    }
+}
+
+/// Completes the history of an engine that was opened and on which nothing was called: all active processes begin to complete, and
+/// piece after piece is handed out in the order of the completion. The gate works on one after another; the end of a process asks
+/// no gate. At the end nothing is owed to the stores' files, unless a call of the rack failed.
+pub fn complete<R: Rack + Drop, B: Resource, G: Gate>(
+    engine: &mut Engine<R, B>,
+    gate: &mut G,
+) -> Completion
+    requires opened { IsOpened engine.old }
+    requires fits { EachFits B.Resource engine.old.files.stores }
+    ensures goes { GoesOnAlone R.Rack engine.old engine.new }
+    ensures completing { IsCompleting (asked G.Gate gate.old gate.new) engine.old.catalog (full_history engine.old.core)
+        engine.new.core }
+    ensures outcome { IsOutcome (full_history engine.old.core) engine.new.core engine.new.phase result }
+    ensures owes { result ≢ Completion.DiskFault → OwesNothing engine.new.files.stores }
+    ensures under_way { result ≡ Completion.DiskFault → IsNextUnderWay (full_history engine.old.core) engine.new.core }
+    ensures fault { result ≡ Completion.DiskFault → Rose (R.faults engine.old.files.rack) (R.faults engine.new.files.rack) }
+    ensures fits { EachFits B.Resource engine.new.files.stores }
+{
+    let completion = take_turns(engine, gate);
+    engine.invariant_holds();
+    match completion {
+        Completion::DiskFault => Completion::DiskFault,
+        _ => match settle(engine) {
+            Ok(()) => completion,
+            Err(_) => Completion::DiskFault,
+        },
     }
 }

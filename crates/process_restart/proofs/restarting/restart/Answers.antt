@@ -18,7 +18,7 @@ returns-in-Ended-clause-restarted g c =
     let sound = c.invariant_holds-2.ensures in
     let now = c.complete-completion.new.engine in
     let restart = restart_is g.R.Rack g.met.R.Rack.honest c.args.parts.rack c.in-Ok.engine now c.invariant_holds.ensures.run opened.rack.tells (λ told. (opened.sound told).sound) (λ told. (opened.sound told).becomes) (λ told. (opened.sound told).each)
-    (told.goes []) (asked g.G.Gate c.args.gate.now c.complete-completion.new.gate) told.completing ends.Ended told.outcome told.under_way sound.read sound.each sound.exactly sound.exactly_each Settled told.outcome.0 in
+    (told.goes []) (asked g.G.Gate c.args.gate.now c.complete-completion.new.gate) told.completing ends.Ended told.outcome told.under_way sound.read sound.each told.owes sound.exactly sound.exactly_each Settled told.outcome.0 in
     (full_history c.in-Ok.engine.core, restart, told.outcome.1)
 
 pub returns-in-Exhausted-clause-restarted : goal.returns-in-Exhausted-clause-restarted
@@ -28,7 +28,7 @@ returns-in-Exhausted-clause-restarted g c =
     let sound = c.invariant_holds-2.ensures in
     let now = c.complete-completion.new.engine in
     let restart = restart_is g.R.Rack g.met.R.Rack.honest c.args.parts.rack c.in-Ok.engine now c.invariant_holds.ensures.run opened.rack.tells (λ told. (opened.sound told).sound) (λ told. (opened.sound told).becomes) (λ told. (opened.sound told).each)
-    (told.goes []) (asked g.G.Gate c.args.gate.now c.complete-completion.new.gate) told.completing (ends.Exhausted c.in-Exhausted.process c.in-Exhausted.step) told.outcome told.under_way sound.read sound.each sound.exactly sound.exactly_each Settled told.outcome.0 in
+    (told.goes []) (asked g.G.Gate c.args.gate.now c.complete-completion.new.gate) told.completing (ends.Exhausted c.in-Exhausted.process c.in-Exhausted.step) told.outcome told.under_way sound.read sound.each told.owes sound.exactly sound.exactly_each Settled told.outcome.0 in
     (full_history c.in-Ok.engine.core, restart, told.outcome.1)
 
 pub returns-in-DiskFault-clause-restarted : goal.returns-in-DiskFault-clause-restarted
@@ -38,7 +38,7 @@ returns-in-DiskFault-clause-restarted g c =
     let sound = c.invariant_holds-2.ensures in
     let now = c.complete-completion.new.engine in
     let restart = restart_is g.R.Rack g.met.R.Rack.honest c.args.parts.rack c.in-Ok.engine now c.invariant_holds.ensures.run opened.rack.tells (λ told. (opened.sound told).sound) (λ told. (opened.sound told).becomes) (λ told. (opened.sound told).each)
-    (told.goes []) (asked g.G.Gate c.args.gate.now c.complete-completion.new.gate) told.completing ends.DiskFault told.outcome told.under_way sound.read sound.each sound.exactly sound.exactly_each Closed told.outcome in
+    (told.goes []) (asked g.G.Gate c.args.gate.now c.complete-completion.new.gate) told.completing ends.DiskFault told.outcome told.under_way sound.read sound.each told.owes sound.exactly sound.exactly_each Closed told.outcome in
     inr (
       now.catalog,
       full_history c.in-Ok.engine.core,
@@ -55,7 +55,7 @@ returns-in-NoMemory-clause-restarted g c =
     let sound = c.invariant_holds-2.ensures in
     let now = c.complete-completion.new.engine in
     let restart = restart_is g.R.Rack g.met.R.Rack.honest c.args.parts.rack c.in-Ok.engine now c.invariant_holds.ensures.run opened.rack.tells (λ told. (opened.sound told).sound) (λ told. (opened.sound told).becomes) (λ told. (opened.sound told).each)
-    (told.goes []) (asked g.G.Gate c.args.gate.now c.complete-completion.new.gate) told.completing ends.NoMemory told.outcome told.under_way sound.read sound.each sound.exactly sound.exactly_each Settled told.outcome in
+    (told.goes []) (asked g.G.Gate c.args.gate.now c.complete-completion.new.gate) told.completing ends.NoMemory told.outcome told.under_way sound.read sound.each told.owes sound.exactly sound.exactly_each Settled told.outcome in
     inr (
       now.catalog,
       full_history c.in-Ok.engine.core,

@@ -6,7 +6,7 @@ use Rattle.engine_calls.proofs.Goes.{goes_then}
 use Rattle.worker_gate.proofs.AloneTurns.{room_same, within_room}
 use Rattle.process_restart.proofs.TurnByTurn.{completed_is, completing, first_turn, next_alike, outcome_alike, plans_are}
 use Rattle.process_restart.proofs.Turns.{turns_none, turns_then}
-use Rattle.process_restart.proofs.completing.complete.Goals as goal
+use Rattle.process_restart.proofs.completing.take_turns.Goals as goal
 
 pub turns-init : goal.turns-init
 turns-init g c = record {
@@ -39,12 +39,12 @@ returns-in-Some-clause-outcome g c =
     outcome_alike (full_history c.args.engine.now.core) (full_history c.turns.engine.core) same c.turn-completion.new.engine.core c.turn-completion.new.engine.phase c.in-Some.completion c.in-Some.ensures.outcome
 
 pub returns-in-Some-clause-under_way : goal.returns-in-Some-clause-under_way
-returns-in-Some-clause-under_way g c failed next under =
+returns-in-Some-clause-under_way g c next under =
     let gate = asked g.G.Gate c.args.gate.now c.turns.gate in
     let ran = c.turns.invariant.ran in
     let same = completed_is c.args.engine.now c.complete_all.new.engine c.requires.opened c.complete_all.ensures.engine g.R.Rack gate c.turns.engine ran in
     let plans = plans_are c.args.engine.now c.complete_all.new.engine c.requires.opened c.complete_all.ensures.engine g.R.Rack gate c.turns.engine ran in
-    next_alike (full_history c.args.engine.now.core) (full_history c.turns.engine.core) same plans c.turn-completion.new.engine.core next (c.in-Some.ensures.under_way (ap Some failed) next under)
+    next_alike (full_history c.args.engine.now.core) (full_history c.turns.engine.core) same plans c.turn-completion.new.engine.core next (c.in-Some.ensures.under_way next under)
 
 pub returns-in-Some-clause-fault : goal.returns-in-Some-clause-fault
 returns-in-Some-clause-fault g c failed =
