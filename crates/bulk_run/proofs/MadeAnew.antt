@@ -44,6 +44,7 @@ module _ {R B : Type 0} (d : Catalog) (e : EngineState R B) (new : IsNew d e) wh
   is_opened = record {
     core = subst (λ core. core ≡ opened_on e.catalog.conflicts core.plans (history_of core)) (sym new.core) (ap (λ (c : Catalog). opened_on c.conflicts [] []) (sym new.catalog));
     phase = new.phase;
+    owes = new.owes;
   }
 
   -- and nobody is active in it.

@@ -33,8 +33,8 @@ pub struct Row {
 }
 
 // The device calls of a group over three stores, however many steps and ends it has: each store and the journal are written, a sync,
-// the gates of the stores, a sync, the journal's gate, a sync; and the commits in the same way as the effects.
-const GROUP: [Left; 19] = [
+// the gates of the stores, a sync, the journal's gate, a sync. The commits are owed.
+const GROUP: [Left; 11] = [
     Left::Before,
     Left::Before,
     Left::Before,
@@ -46,14 +46,6 @@ const GROUP: [Left; 19] = [
     Left::Before,
     Left::ByGate,
     Left::ByGate,
-    Left::WithEvent,
-    Left::WithEvent,
-    Left::WithEvent,
-    Left::WithEvent,
-    Left::WithEvent,
-    Left::WithEvent,
-    Left::WithEvent,
-    Left::WithEvent,
 ];
 
 const SHIPS: &[u8] = b"process d c s ship 1 1 end";

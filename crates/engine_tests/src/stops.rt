@@ -27,7 +27,6 @@ pub enum Left {
     Before,
     // the one with the event where the gate of its record isn't 0
     ByGate,
-    WithEvent,
 }
 
 /// How many events a history has before what is under way, and with it.
@@ -40,8 +39,9 @@ pub struct Around {
 /// The device calls of a record: its bytes, a sync, its gate, a sync.
 pub const RECORD: [Left; 4] = [Left::Before, Left::Before, Left::ByGate, Left::ByGate];
 
-/// Those of a step or an undo: its bytes and those of its record, a sync, its gate, a sync, the record's gate, a sync; and its commit.
-pub const ACT: [Left; 11] = [
+/// Those of a step or an undo: its bytes with the commit that is owed and those of its record, a sync, its gate, a sync, the record's
+/// gate, a sync. Its own commit is owed.
+pub const ACT: [Left; 7] = [
     Left::Before,
     Left::Before,
     Left::Before,
@@ -49,10 +49,6 @@ pub const ACT: [Left; 11] = [
     Left::Before,
     Left::ByGate,
     Left::ByGate,
-    Left::WithEvent,
-    Left::WithEvent,
-    Left::WithEvent,
-    Left::WithEvent,
 ];
 
 // How many bytes of what isn't synced stay, and what stands in place of the others.
@@ -99,7 +95,6 @@ fn has_event(left: Left, stop: Stop) -> bool {
     match left {
         Left::Before => false,
         Left::ByGate => stop.keep > 0 || stop.fill != 0,
-        Left::WithEvent => true,
     }
 }
 
