@@ -3,7 +3,7 @@ use Rattle.process_core.specs.Cores.{IsCore}
 use Rattle.process_core.specs.Room.{room_of}
 use Rattle.engine_calls.specs.GateAnswers.{asked}
 use Rattle.process_restart.specs.Turns.{IsAtTurn, RanInTurn}
-use Rattle.process_restart.proofs.completing.complete.Given as goal
+use Rattle.process_restart.proofs.completing.take_turns.Given as goal
 
 -- since all were asked to complete they were run in turn, and the next turn may come
 abbrev pub invariant-turns : goal.invariant-turns
