@@ -5,6 +5,7 @@ pub mod FirstActive
 pub mod Fitting
 pub mod Gone
 pub mod IdleStarts
+pub mod LastCall
 pub mod NotRefused
 pub mod NothingWrong
 pub mod OneOf
