@@ -14,7 +14,7 @@ no_effect_at ([] ∷ group) none (suc q) = no_effect_at group none q
 no_effect_at ((e ∷ es) ∷ group) none q = absurd cc
 
 prepared_as_none : {B : Type 0} (s : Opened B) (es : List Effect) → es ≡ [] → IsPrepared es s s
-prepared_as_none s es none = subst (λ x. IsPrepared x s s) (sym none) (record { file = refl; kind = refl; book = refl; doubt = sym (append-nil s.doubt) })
+prepared_as_none s es none = subst (λ x. IsPrepared x s s) (sym none) (record { file = refl; kind = refl; book = refl; doubt = sym (append-nil s.doubt); owed = refl })
 
 -- stores are prepared as they are,
 pub none_prepared : {B : Type 0} (group : List (List Effect)) (stores : List (Opened B)) → has_effect group ≡ false → BecomeEach (λ q s t. IsPrepared (effects_for group q) s t) stores stores

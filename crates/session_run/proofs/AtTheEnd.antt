@@ -18,7 +18,7 @@ use Rattle.scenario_run.proofs.LastCall.{settled_or_closed}
 use Rattle.session_text.specs.declared.line.Line.{Line}
 use Rattle.session_play.specs.declared.cut.Cut.{Cut}
 use Rattle.session_play.specs.declared.cut.Cut.TheVariants.{DiskFault, NoMemory}
-use Rattle.session_run.specs.Playthrough.{fault_line, status_after, EndsAt, HasAnsweredTo, HasPlayed}
+use Rattle.session_run.specs.Playthrough.{fault_line, status_after, status_of, EndsAt, HasAnsweredTo, HasPlayed}
 
 -- behind the answers stands the line of a fault
 pub with_fault : (c : Catalog) (plans : List Plan) (first now : CoreState) (lines : List Line) (text all : List ℕ) (s : Status) → all ≡ text ++ fault_line s → HasAnsweredTo c plans first now lines text s
@@ -70,6 +70,16 @@ module _ {T U : Type 0} (answered cut : Result T Cut) (end : Result U Refusal) (
       by : (e : Result U Refusal) → OnOk e (cut ≡ answered) → OnErr e (cut ≡ Err DiskFault) → HasAnsweredTo c plans first now lines text (status_after cut)
       by (Ok u) same off = subst (λ x. HasAnsweredTo c plans first now lines text (status_after x)) (sym same) here
       by (Err r) same off = subst (λ x. HasAnsweredTo c plans first now lines text (status_after x)) (sym off) (answered_fails c plans first now lines text (status_after answered) here)
+
+-- what cut an answer off
+pub cut_in : {T : Type 0} → Result T Cut → Cut
+cut_in (Ok u) = NoMemory
+cut_in (Err cut) = cut
+
+-- only a fault of the rack gives its status
+pub only_disk : (cut : Cut) (s : Status) → s ≡ status_of cut → s ≡ statuses.DiskFault → cut ≡ DiskFault
+only_disk DiskFault s is same = refl
+only_disk NoMemory s is same = absurd (let other = sym is ∙ same in cc)
 
 -- nothing is under way before it
 pub is_still : {R B T : Type 0} (box : Resources B) (racks : Racks R) (first e : EngineState R B) (answered : Result T Cut) → IfErr answered (λ cut. cut ≡ DiskFault → IsClosedByFault racks first e)

@@ -7,7 +7,7 @@ use Rattle.serve_run.specs.Dialogue.{IsBetween, IsExchange, state_at}
 use Rattle.serve_run.specs.declared.faults.Fault.TheVariants.{NoMemory}
 use Rattle.serve_run.proofs.Exchanges.{one_more}
 use Rattle.serve_run.proofs.Turns.{over_by_fault}
-use Rattle.serve_run.proofs.dialogue.converse.Goals as goal
+use Rattle.serve_run.proofs.dialogue.talk.Goals as goal
 
 pub returns-in-Some-clause-held : goal.returns-in-Some-clause-held
 returns-in-Some-clause-held g c =
