@@ -10,3 +10,4 @@ pub mod EndedPieces
 pub mod Worked
 pub mod TurnByTurn
 pub mod RestartedFiles
+pub mod LastCall
