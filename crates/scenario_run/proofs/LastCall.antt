@@ -47,49 +47,50 @@ module _ {R B : Type 0} (racks : Racks R) where
       → (now.phase ≡ Settled → OwesNothing now.files.stores → Told (racks.disk now.files.rack) → AreExactly now.catalog (full_history now.core) (racks.disk now.files.rack).files)
       → (now.phase ≡ Settled → OwesNothing now.files.stores → Told (racks.disk now.files.rack) → EachImage (racks.disk now.files.rack) (racks.disk now.files.rack).moment (AreExactly now.catalog (full_history now.core)))
       → AreInNoDoubt c now.core on (racks.disk entry) (racks.disk now.files.rack)
-  in_no_doubt entry now c on tells catalog at owes exactly each = subst (λ p. AreInNoDoubt c now.core p (racks.disk entry) after) at (record {
-    read = λ is told. subst (λ d. AreExactly d (full_history now.core) after.files) catalog (exactly is (owes is) (still_told (racks.disk entry) after tells told));
-    each = λ is told. subst (λ d. EachImage after after.moment (AreExactly d (full_history now.core))) catalog (each is (owes is) (still_told (racks.disk entry) after tells told));
-  })
-    where
-      abbrev after : Disk
-      after = racks.disk now.files.rack
+  in_no_doubt entry now c on tells catalog at owes exactly each =
+      let after = racks.disk now.files.rack in
+      subst (λ p. AreInNoDoubt c now.core p (racks.disk entry) after) at (record {
+        read = λ is told. subst (λ d. AreExactly d (full_history now.core) after.files) catalog (exactly is (owes is) (still_told (racks.disk entry) after tells told));
+        each = λ is told. subst (λ d. EachImage after after.moment (AreExactly d (full_history now.core))) catalog (each is (owes is) (still_told (racks.disk entry) after tells told));
+      })
 
 -- What was found of a run, and what is said of it after the last call.
-module _ {R B : Type 0} (racks : Racks R) {T : Type 0} (first mid new : EngineState R B) (later : racks.faults first.files.rack ≤ racks.faults mid.files.rack) where
-  abbrev WasCut : EngineState R B → Refusal → Type 0
+module _ {R B : Type 0} (racks : Racks R) (first mid : EngineState R B) (later : racks.faults first.files.rack ≤ racks.faults mid.files.rack) where
+  -- memory was wanting, or a call of the rack failed and the engine is closed
+  abbrev pub WasCut : EngineState R B → Refusal → Type 0
   WasCut e r = ((r ≡ NoMemory) × (e.phase ≡ Settled)) ⊎ ((r ≡ DiskFault) × (e.phase ≡ Closed) × Rose (racks.faults first.files.rack) (racks.faults e.files.rack))
 
   -- nothing is under way before it
-  pub is_still : (found : Result Said Refusal) → IfOk found (λ s. mid.phase ≡ Settled) → IfErr found (WasCut mid) → IsStill mid
+  pub is_still : (found : Result Said Refusal) → IfOk found (λ s. mid.phase ≡ Settled) → IfErr found (λ r. WasCut mid r) → IsStill mid
   is_still (Ok s) settled cut = inl settled
   is_still (Err r) settled (inl memory) = inl memory.1
   is_still (Err r) settled (inr fault) = inr fault.1
 
-  pub said_then : (found said : Result Said Refusal) (end : Result T Refusal) (P : Said → Type 0) → IfOk found P → OnOk end ((mid.phase ≡ Settled) × (new.phase ≡ Settled)) → OnOk end (said ≡ found) → IfErr end (λ r. said ≡ Err r)
-      → IfOk said (λ s. (new.phase ≡ Settled) × P s)
-  said_then (Ok s) said (Ok u) P is settled kept cut = subst (λ x. IfOk x (λ y. (new.phase ≡ Settled) × P y)) (sym kept) (settled.1, is)
-  said_then (Err r) said (Ok u) P is settled kept cut = subst (λ x. IfOk x (λ y. (new.phase ≡ Settled) × P y)) (sym kept) tt
-  said_then found said (Err r) P is settled kept cut = subst (λ x. IfOk x (λ y. (new.phase ≡ Settled) × P y)) (sym cut) tt
-
-  cut_once : (r : Refusal) → WasCut mid r → mid.phase ≡ Settled → new.phase ≡ Settled → WasCut new r
-  cut_once r (inl memory) was on = inl (memory.0, on)
-  cut_once r (inr fault) was on = absurd (settled_or_closed mid.phase was fault.1)
-
   -- it was cut off before, where the engine was closed before
-  cut_before : (found : Result Said Refusal) → IfOk found (λ s. mid.phase ≡ Settled) → IfErr found (WasCut mid) → mid.phase ≡ Closed → Rose (racks.faults first.files.rack) (racks.faults mid.files.rack)
+  cut_before : (found : Result Said Refusal) → IfOk found (λ s. mid.phase ≡ Settled) → IfErr found (λ r. WasCut mid r) → mid.phase ≡ Closed → Rose (racks.faults first.files.rack) (racks.faults mid.files.rack)
   cut_before (Ok s) settled cut closed = absurd (settled_or_closed mid.phase settled closed)
   cut_before (Err r) settled (inl memory) closed = absurd (settled_or_closed mid.phase memory.1 closed)
   cut_before (Err r) settled (inr fault) closed = fault.2
 
-  cut_now : (found : Result Said Refusal) (r : Refusal) → IfOk found (λ s. mid.phase ≡ Settled) → IfErr found (WasCut mid) → IsClosedAtEnd racks mid new r → WasCut new r
-  cut_now found r settled cut (is, closed, inl (before, same)) =
-      inr (is, closed, subst (λ (e : EngineState R B). Rose (racks.faults first.files.rack) (racks.faults e.files.rack)) (sym same) (cut_before found settled cut before))
-  cut_now found r settled cut (is, closed, inr rose) =
-      inr (is, closed, rose_later (racks.faults first.files.rack) (racks.faults mid.files.rack) (racks.faults new.files.rack) later rose)
+  module _ (new : EngineState R B) where
+    pub said_then : {T : Type 0} (found said : Result Said Refusal) (end : Result T Refusal) (P : Said → Type 0) → IfOk found P → OnOk end ((mid.phase ≡ Settled) × (new.phase ≡ Settled)) → OnOk end (said ≡ found)
+        → IfErr end (λ r. said ≡ Err r) → IfOk said (λ s. (new.phase ≡ Settled) × P s)
+    said_then (Ok s) said (Ok u) P is settled kept cut = subst (λ x. IfOk x (λ y. (new.phase ≡ Settled) × P y)) (sym kept) (settled.1, is)
+    said_then (Err r) said (Ok u) P is settled kept cut = subst (λ x. IfOk x (λ y. (new.phase ≡ Settled) × P y)) (sym kept) tt
+    said_then found said (Err r) P is settled kept cut = subst (λ x. IfOk x (λ y. (new.phase ≡ Settled) × P y)) (sym cut) tt
 
-  pub cut_then : (found said : Result Said Refusal) (end : Result T Refusal) → IfOk found (λ s. mid.phase ≡ Settled) → IfErr found (WasCut mid) → OnOk end ((mid.phase ≡ Settled) × (new.phase ≡ Settled))
-      → IfErr end (IsClosedAtEnd racks mid new) → OnOk end (said ≡ found) → IfErr end (λ r. said ≡ Err r) → IfErr said (WasCut new)
-  cut_then (Ok s) said (Ok u) settled cut on fault kept off = subst (λ x. IfErr x (WasCut new)) (sym kept) tt
-  cut_then (Err r) said (Ok u) settled cut on fault kept off = subst (λ x. IfErr x (WasCut new)) (sym kept) (cut_once r cut on.0 on.1)
-  cut_then found said (Err r) settled cut on fault kept off = subst (λ x. IfErr x (WasCut new)) (sym off) (cut_now found r settled cut fault)
+    cut_once : (r : Refusal) → WasCut mid r → mid.phase ≡ Settled → new.phase ≡ Settled → WasCut new r
+    cut_once r (inl memory) was on = inl (memory.0, on)
+    cut_once r (inr fault) was on = absurd (settled_or_closed mid.phase was fault.1)
+
+    cut_now : (found : Result Said Refusal) (r : Refusal) → IfOk found (λ s. mid.phase ≡ Settled) → IfErr found (λ r. WasCut mid r) → IsClosedAtEnd racks mid new r → WasCut new r
+    cut_now found r settled cut (is, closed, inl (before, same)) =
+        inr (is, closed, subst (λ (e : EngineState R B). Rose (racks.faults first.files.rack) (racks.faults e.files.rack)) (sym same) (cut_before found settled cut before))
+    cut_now found r settled cut (is, closed, inr rose) =
+        inr (is, closed, rose_later (racks.faults first.files.rack) (racks.faults mid.files.rack) (racks.faults new.files.rack) later rose)
+
+    pub cut_then : {T : Type 0} (found said : Result Said Refusal) (end : Result T Refusal) → IfOk found (λ s. mid.phase ≡ Settled) → IfErr found (λ r. WasCut mid r) → OnOk end ((mid.phase ≡ Settled) × (new.phase ≡ Settled))
+        → IfErr end (IsClosedAtEnd racks mid new) → OnOk end (said ≡ found) → IfErr end (λ r. said ≡ Err r) → IfErr said (λ r. WasCut new r)
+    cut_then (Ok s) said (Ok u) settled cut on fault kept off = subst (λ x. IfErr x (λ r. WasCut new r)) (sym kept) tt
+    cut_then (Err r) said (Ok u) settled cut on fault kept off = subst (λ x. IfErr x (λ r. WasCut new r)) (sym kept) (cut_once r cut on.0 on.1)
+    cut_then found said (Err r) settled cut on fault kept off = subst (λ x. IfErr x (λ r. WasCut new r)) (sym off) (cut_now found r settled cut fault)

@@ -10,6 +10,7 @@ pub mod NotRefused
 pub mod NothingWrong
 pub mod OneOf
 pub mod OnlyOpened
+pub mod OpenedOn
 pub mod OpeningParts
 pub mod OwnCatalog
 pub mod RunDue

@@ -65,7 +65,7 @@ returns-clause-ran g c =
     so_ok c.said_at_end.result (λ s. (new.phase ≡ Settled) × SaysBulk new.core s)
     (λ s. HasGoneAlone gate old.catalog (full_history old.core) c.args.plans.items new.core × (new.phase ≡ Settled) × SaysBulk new.core s)
     (λ s said. (subst (HasGoneAlone gate old.catalog (full_history old.core) c.args.plans.items) core gone, said.0, said.1))
-    (said_then g.R.Rack start mid new (ran.goes []).later c.run_started-found.result c.said_at_end.result c.settle_at_end-end.result (λ s. SaysBulk new.core s) found
+    (said_then g.R.Rack start mid (ran.goes []).later new c.run_started-found.result c.said_at_end.result c.settle_at_end-end.result (λ s. SaysBulk new.core s) found
     c.settle_at_end-end.ensures.settled c.said_at_end.ensures.ok c.said_at_end.ensures.err)
 
 pub returns-clause-refused : goal.returns-clause-refused
@@ -81,7 +81,7 @@ returns-clause-refused g c =
     let found = so_ok c.run_started-found.result (λ s. (mid.phase ≡ Settled) × SaysBulk mid.core s) (λ s. mid.phase ≡ Settled) (λ s is. is.0) c.run_started-found.ensures.said in
     all_started g.R.Rack.faults (one_gate gate) old start new c.args.plans.items first.later (HasGoneAlone gate old.catalog (full_history old.core))
     (subst (HasGoneAlone gate old.catalog (full_history old.core) c.args.plans.items) (sym c.settle_at_end-end.ensures.core) gone) c.said_at_end.result
-    (cut_then g.R.Rack start mid new (ran.goes []).later c.run_started-found.result c.said_at_end.result c.settle_at_end-end.result found c.run_started-found.ensures.refused
+    (cut_then g.R.Rack start mid (ran.goes []).later new c.run_started-found.result c.said_at_end.result c.settle_at_end-end.result found c.run_started-found.ensures.refused
     c.settle_at_end-end.ensures.settled c.settle_at_end-end.ensures.fault c.said_at_end.ensures.ok c.said_at_end.ensures.err)
 
 pub returns-clause-owes : goal.returns-clause-owes

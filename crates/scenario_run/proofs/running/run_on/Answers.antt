@@ -63,7 +63,7 @@ returns-clause-ran g c =
     so_ok c.said_at_end.result (λ s. (new.phase ≡ Settled) × SaysRun old.catalog new.core s)
     (λ s. HasGone gates old.catalog (full_history old.core) c.args.plans.items new.core × (new.phase ≡ Settled) × SaysRun old.catalog new.core s)
     (λ s said. (subst (HasGone gates old.catalog (full_history old.core) c.args.plans.items) core gone, said.0, said.1))
-    (said_then g.R.Rack start mid new (ran.goes []).later c.run_started-engine.result.found c.said_at_end.result c.settle_at_end-end.result (λ s. SaysRun old.catalog new.core s) found
+    (said_then g.R.Rack start mid (ran.goes []).later new c.run_started-engine.result.found c.said_at_end.result c.settle_at_end-end.result (λ s. SaysRun old.catalog new.core s) found
     c.settle_at_end-end.ensures.settled c.said_at_end.ensures.ok c.said_at_end.ensures.err)
 
 pub returns-clause-refused : goal.returns-clause-refused
@@ -79,7 +79,7 @@ returns-clause-refused g c =
     let found = so_ok c.run_started-engine.result.found (λ s. (mid.phase ≡ Settled) × SaysRun mid.catalog mid.core s) (λ s. mid.phase ≡ Settled) (λ s is. is.0) c.run_started-engine.ensures.said in
     all_started g.R.Rack.faults gates old start new c.args.plans.items first.later (HasGone gates old.catalog (full_history old.core))
     (subst (HasGone gates old.catalog (full_history old.core) c.args.plans.items) (sym c.settle_at_end-end.ensures.core) gone) c.said_at_end.result
-    (cut_then g.R.Rack start mid new (ran.goes []).later c.run_started-engine.result.found c.said_at_end.result c.settle_at_end-end.result found c.run_started-engine.ensures.refused
+    (cut_then g.R.Rack start mid (ran.goes []).later new c.run_started-engine.result.found c.said_at_end.result c.settle_at_end-end.result found c.run_started-engine.ensures.refused
     c.settle_at_end-end.ensures.settled c.settle_at_end-end.ensures.fault c.said_at_end.ensures.ok c.said_at_end.ensures.err)
 
 pub returns-clause-owes : goal.returns-clause-owes
