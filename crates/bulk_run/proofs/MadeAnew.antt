@@ -10,9 +10,10 @@ use Rattle.commute_table.specs.declared.catalog.Catalog.{Catalog}
 use Rattle.process_core.specs.Cores.{CoreState, history_of, opened_on}
 use Rattle.process_journal.specs.Bodies.{no_history}
 use Rattle.history_files.specs.Creating.{first_used}
+use Rattle.history_files.specs.Groups.{OwesNothing}
 use Rattle.history_files.specs.Sound.{IsSound}
 use Rattle.history_opening.specs.Images.{BecomesSound}
-use Rattle.engine_steps.specs.Engines.{EngineState, IsNew, full_history}
+use Rattle.engine_steps.specs.Engines.{AreExactly, EngineState, IsNew, full_history}
 use Rattle.engine_steps.specs.Opening.{IsOpened}
 use Rattle.engine_steps.specs.declared.engines.Phase.{Phase}
 use Rattle.engine_steps.specs.declared.engines.Phase.TheVariants.{Settled, Closed}
@@ -31,6 +32,7 @@ use Rattle.init_run.specs.Init.{AreMade}
 use Rattle.scenario_run.specs.Run.{one_gate}
 use Rattle.scenario_run.specs.Stops.{IsStoppedBy}
 use Rattle.history_opening.proofs.Rising.{rose_later}
+use Rattle.scenario_run.proofs.LastCall.{in_no_doubt}
 use Rattle.bulk_run.specs.Bulk.{AreMadeAndKept, HasGoneAlone, IsBulkOf, SaysBulk}
 
 -- an engine in which nothing has happened
@@ -60,6 +62,9 @@ module _ {R B : Type 0} (r : Racks R) (honest : (rack : R) → Told (r.disk rack
     (goes : GoesOn r plans opening now)
     (read : now.phase ≡ Settled → Told (r.disk now.files.rack) → IsSound now.catalog (full_history now.core) (r.disk now.files.rack).files)
     (each : now.phase ≡ Settled → Told (r.disk now.files.rack) → EachImage (r.disk now.files.rack) (r.disk now.files.rack).moment (IsSound now.catalog (full_history now.core)))
+    (owes : now.phase ≡ Settled → OwesNothing now.files.stores)
+    (exactly : now.phase ≡ Settled → OwesNothing now.files.stores → Told (r.disk now.files.rack) → AreExactly now.catalog (full_history now.core) (r.disk now.files.rack).files)
+    (exactly_each : now.phase ≡ Settled → OwesNothing now.files.stores → Told (r.disk now.files.rack) → EachImage (r.disk now.files.rack) (r.disk now.files.rack).moment (AreExactly now.catalog (full_history now.core)))
     (handed : back ≡ now.files.rack) where
   abbrev settled : Disk
   settled = r.disk opening.files.rack
@@ -99,6 +104,7 @@ module _ {R B : Type 0} (r : Racks R) (honest : (rack : R) → Told (r.disk rack
         };
         read = λ on told. since.read on (told_settled told);
         each = λ on told. since.each on (told_settled told);
+        in_no_doubt = in_no_doubt r entry now d now.phase (goes.tells ∙ tells) (goes.catalog ∙ new.catalog) refl owes exactly exactly_each;
       })
 
   kept_on : (on : Phase) → now.phase ≡ on → KeptOn on

@@ -30,6 +30,7 @@ use Rattle.command_input.specs.declared.scenario.NoPlans.{NoPlans}
 use Rattle.command_input.specs.FilesLeft.{Files, before_files}
 use Rattle.command_input.specs.Scenarios.{all_refusing, scenario_tests, IsBound}
 use Rattle.init_run.specs.Init.{empty_test, AreMade, AreNotMade}
+use Rattle.scenario_run.specs.Ending.{AreInNoDoubt}
 use Rattle.scenario_run.specs.Run.{HasGone, SaysAtEnd, limit_refusal, one_gate}
 use Rattle.scenario_run.specs.Scenario.{IsSaidOfNone}
 use Rattle.scenario_run.specs.Starting.{started_on}
@@ -44,7 +45,7 @@ pub record SinceMade (holds : ℕ → Type 0) (old new : Disk) : Type 0 where
 
 -- The files, where they are told, were empty, and were made those of a history without events. Since then what came was kept in
 -- turn, or an image is ahead of it. Unless a call of the rack failed they are sound for the history now, and so is each image of
--- them from now on.
+-- them from now on; and nothing is in doubt in them.
 pub record AreMadeAndKept (c : Catalog) (now : CoreState) (IsAhead : FileSet → Type 0) (on : Phase) (old new : Disk) : Type 0 where
   pub came : List (ℕ × List Event)
   pub events : history_of now ≡ events_of came
@@ -52,6 +53,7 @@ pub record AreMadeAndKept (c : Catalog) (now : CoreState) (IsAhead : FileSet →
   pub in_turn : Told old → SinceMade (λ t. ComeInTurn c (full_history now) IsAhead new [] t came) old new
   pub read : on ≡ Settled → Told old → IsSound c (full_history now) new.files
   pub each : on ≡ Settled → Told old → EachImage new new.moment (IsSound c (full_history now))
+  pub in_no_doubt : AreInNoDoubt c now on old new
 
 -- The machine opened on this history, in which no process is active. Processes of these plans started, in this order, and since
 -- then all were only run, by this gate, in turns one after another, each of which hands out a piece and ends it, or not.

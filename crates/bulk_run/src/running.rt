@@ -7,6 +7,7 @@ ghost use Rattle.schedule_model.specs.Laws.{IsGoodPlan};
 ghost use Rattle.commute_table.specs.Operations.{IsCatalog};
 ghost use Rattle.process_core.specs.Cores.{history_of};
 ghost use Rattle.history_files.specs.Boxes.{AreBoxes};
+ghost use Rattle.history_files.specs.Groups.{OwesNothing};
 ghost use Rattle.history_files.specs.Standing.{EachFits};
 ghost use Rattle.engine_steps.specs.Beginning.{IsPlanFor};
 ghost use Rattle.engine_steps.specs.Engines.{full_history};
@@ -33,7 +34,7 @@ use process_engine::{Engine, Gate, Parts};
 use process_tree::Plan;
 use resource_box::Resource;
 use scenario_gen::generate;
-use scenario_run::{all_fit, said_of_none, start_all};
+use scenario_run::{all_fit, said_at_end, said_of_none, settle_at_end, start_all};
 use std::alloc::Global;
 use worker_gate::run_alone;
 
@@ -68,7 +69,8 @@ fn run_started<R: Rack + Drop, B: Resource, G: Gate>(
     said_of(alloc, engine, outcome)
 }
 
-// Starts processes on an engine that was opened, and runs them.
+// Starts processes on an engine that was opened, and runs them. At the end no file is owed a commit, unless a call of the rack
+// failed.
 fn run_on<R: Rack + Drop, B: Resource, G: Gate>(
     alloc: Global,
     engine: &mut Engine<R, B>,
@@ -87,6 +89,7 @@ fn run_on<R: Rack + Drop, B: Resource, G: Gate>(
     ensures refused { IfErr result
         (λ r. IsStoppedBy (HasGoneAlone (asked G.Gate gate.old gate.new) engine.old.catalog (full_history engine.old.core))
         (one_gate (asked G.Gate gate.old gate.new)) R.faults engine.old engine.new plans.items r) }
+    ensures owes { engine.new.phase ≡ phase.Settled → OwesNothing engine.new.files.stores }
     ensures fits { EachFits B.Resource engine.new.files.stores }
 {
     engine.invariant_holds();
@@ -98,7 +101,9 @@ fn run_on<R: Rack + Drop, B: Resource, G: Gate>(
     engine.invariant_holds();
     let found = run_started(alloc, engine, gate);
     engine.invariant_holds();
-    found
+    let end = settle_at_end(engine);
+    engine.invariant_holds();
+    said_at_end(found, end)
 }
 
 // Makes the files of a scenario, and runs its processes on them.

@@ -81,7 +81,7 @@ module _ (law : ListsAreOfValues) where
 
   run_says : (gates : AskedGates) (before after : Input) (files files_after : Files) (said : Said) → IsRunFound gates before after files files_after (Ok said) → SaysValues files files_after said
   run_says gates before after files files_after said (inl ((ill, why), unasked)) = inl ill
-  run_says gates before after files files_after said (inr (c, plans, read, (h, now, (gone, kept), says))) =
+  run_says gates before after files files_after said (inr (c, plans, read, (h, now, (gone, kept, sure), says))) =
       let report = run_report c now said says in
       inr (c, full_history now, report.0, λ told. (report.1, kept_show c h now _ Settled files files_after kept refl told))
 

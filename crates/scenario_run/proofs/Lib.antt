@@ -5,10 +5,12 @@ pub mod FirstActive
 pub mod Fitting
 pub mod Gone
 pub mod IdleStarts
+pub mod LastCall
 pub mod NotRefused
 pub mod NothingWrong
 pub mod OneOf
 pub mod OnlyOpened
+pub mod OpenedOn
 pub mod OpeningParts
 pub mod OwnCatalog
 pub mod RunDue

@@ -1,4 +1,5 @@
 pub mod Completeness
+pub mod Ending
 pub mod Opening
 pub mod OpeningExamples
 pub mod Reports

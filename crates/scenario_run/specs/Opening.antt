@@ -15,6 +15,7 @@ use Rattle.history_opening.specs.declared.faults.OpenError.TheVariants as errors
 use Rattle.history_opening.specs.Images.{BecomesSound}
 use Rattle.history_opening.specs.Opening.{IsDueToOpening}
 use Rattle.history_files.specs.Sound.{IsSound}
+use Rattle.engine_steps.specs.Engines.{AreExactly}
 use Rattle.engine_steps.specs.Opening.{LeftByOpening}
 use Rattle.command_refusals.specs.declared.faults.FileFault.TheVariants.{BadHeader, BadRecord, BadHistory, BadBook}
 use Rattle.command_refusals.specs.declared.refusal.Refusal.{Refusal}
@@ -46,12 +47,14 @@ IsOther own c refusals.NoMemory = ⊤
 IsOther own c r = ⊥
 
 -- The files, where they are told, were sound for this history, and became so again from some moment of the opening on: they are
--- now, and so is each image of them from now on.
+-- now, and so is each image of them from now on. Nothing is in doubt in them: they are exactly those of the history.
 pub record AreOpenedOn (c : Catalog) (h : History) (before after : Files) : Type 0 where
   pub sound : Told before.disk → IsSound c h before.disk.files
   pub becomes : Told before.disk → BecomesSound c h before.disk after.disk
   pub now : Told before.disk → IsSound c h after.disk.files
   pub each : Told before.disk → EachImage after.disk after.disk.moment (IsSound c h)
+  pub exactly : Told before.disk → AreExactly c h after.disk.files
+  pub exactly_each : Told before.disk → EachImage after.disk after.disk.moment (AreExactly c h)
 
 -- They were not opened: this is the first file or book at fault, and nothing was written, as all are read before; or the rack
 -- failed; or memory was wanting.

@@ -31,6 +31,7 @@ use Rattle.command_input.specs.declared.scenario.NoPlans.{NoPlans}
 use Rattle.command_input.specs.FilesLeft.{Files, before_files}
 use Rattle.command_input.specs.Inputs.{Input}
 use Rattle.command_input.specs.Scenarios.{all_refusing}
+use Rattle.scenario_run.specs.Ending.{AreInNoDoubt}
 use Rattle.scenario_run.specs.Opening.{catalog_test, files_test, idle_test, once_opened}
 use Rattle.scenario_run.specs.Reports.{HasUsedUp, exhausted_line, report_in}
 use Rattle.scenario_run.specs.Scenario.{read_tests, IsSaidOfNone, IsScenarioRead}
@@ -46,10 +47,11 @@ pub record HasGone (gates : AskedGates) (c : Catalog) (h : History) (started : L
   pub idle : active h.events ≡ []
   pub run : WasRunByGates gates c (started_on c h started) now
 
--- A run on files of this history, up to now.
+-- A run on files of this history, up to now. Unless a call of the rack failed, nothing is in doubt in the files.
 abbrev pub IsRun : AskedGates → Catalog → History → List Plan → List Plan → CoreState → Phase → Files → Files → Type 0
 IsRun gates c h plans started now on before after =
     HasGone gates c h started now × AreKept c h now (IsOneAhead c plans now on) on before.disk after.disk
+    × AreInNoDoubt c now on before.disk after.disk
 
 -- what is told of a limit that the processes of a scenario would pass
 abbrev pub limit_refusal : StartLimit → Refusal

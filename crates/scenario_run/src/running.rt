@@ -8,6 +8,7 @@ ghost use Rattle.schedule_model.specs.Laws.{IsGoodPlan};
 ghost use Rattle.commute_table.specs.Operations.{IsCatalog};
 ghost use Rattle.process_core.specs.Cores.{history_of};
 ghost use Rattle.history_files.specs.Boxes.{AreBoxes};
+ghost use Rattle.history_files.specs.Groups.{OwesNothing};
 ghost use Rattle.history_files.specs.Standing.{EachFits};
 ghost use Rattle.engine_steps.specs.Beginning.{IsPlanFor};
 ghost use Rattle.engine_steps.specs.Engines.{full_history};
@@ -25,6 +26,7 @@ ghost use Rattle.scenario_run.specs.Completeness.{IsRunComplete};
 ghost use Rattle.scenario_run.specs.Run.{HasGone, IsRefusedOn, IsRunDue, IsRunOf, IsSaidOf, SaysRun, limit_refusal};
 ghost use Rattle.scenario_run.specs.Stops.{IsStopped};
 
+use crate::ending::{said_at_end, settle_at_end};
 use crate::opening::opened;
 use crate::reporting::{report_now, stuck_report};
 use crate::scenario::{said_of_none, scenario_from};
@@ -143,7 +145,8 @@ fn run_started<H: Threads + Wait + Sync, R: Rack + Drop + Send, B: Resource + Se
     }
 }
 
-// Starts the processes of a scenario on an engine that was opened for it, and runs them.
+// Starts the processes of a scenario on an engine that was opened for it, and runs them. At the end no file is owed a commit, unless
+// a call of the rack failed.
 fn run_on<H: Threads + Wait + Sync, R: Rack + Drop + Send, B: Resource + Send, G: Gate + Send>(
     rt: &H,
     alloc: Global,
@@ -164,6 +167,7 @@ fn run_on<H: Threads + Wait + Sync, R: Rack + Drop + Send, B: Resource + Send, G
         result.engine.core × (result.engine.phase ≡ phase.Settled) × SaysRun engine.catalog result.engine.core s) }
     ensures refused { IfErr result.found
         (λ r. IsStopped (asked_gates G.Gate gates.items result.gates.items) R.faults engine result.engine plans.items r) }
+    ensures owes { result.engine.phase ≡ phase.Settled → OwesNothing result.engine.files.stores }
     ensures fits { EachFits B.Resource result.engine.files.stores }
 {
     racks_are_honest::<R>();
@@ -185,9 +189,20 @@ fn run_on<H: Threads + Wait + Sync, R: Rack + Drop + Send, B: Resource + Send, G
         };
     }
     engine.invariant_holds();
-    let ran = run_started(rt, alloc, engine, gates);
-    ran.engine.invariant_holds();
-    ran
+    let EngineEnd {
+        engine,
+        gates,
+        found,
+    } = run_started(rt, alloc, engine, gates);
+    engine.invariant_holds();
+    let mut engine = engine;
+    let end = settle_at_end(&mut engine);
+    engine.invariant_holds();
+    EngineEnd {
+        engine,
+        gates,
+        found: said_at_end(found, end),
+    }
 }
 
 // Runs the processes of a scenario on the files of the parts.

@@ -37,6 +37,7 @@ fn start_one<R: Rack + Drop, B: Resource>(
         ⊎ ((r ≡ Refusal.DiskFault) × (engine.new.phase ≡ phase.Closed)
         × Rose (R.faults engine.old.files.rack) (R.faults engine.new.files.rack))) }
     ensures goes { (may_start : List Plan') → IsOneOf may_start plan → GoesOn R.Rack may_start engine.old engine.new }
+    ensures stores { engine.new.files.stores ≡ engine.old.files.stores }
     ensures fits { EachFits B.Resource engine.new.files.stores }
 {
     match engine_calls::start(engine, alloc, plan) {
@@ -68,6 +69,7 @@ pub fn start_all<R: Rack + Drop, B: Resource>(
         ⊎ ((r ≡ Refusal.DiskFault) × (engine.new.phase ≡ phase.Closed)
         × Rose (R.faults engine.old.files.rack) (R.faults engine.new.files.rack))) }
     ensures goes { GoesOn R.Rack plans.items engine.old engine.new }
+    ensures stores { engine.new.files.stores ≡ engine.old.files.stores }
     ensures fits { EachFits B.Resource engine.new.files.stores }
 {
     engine.invariant_holds();

@@ -7,3 +7,4 @@ pub mod ServeDue
 pub mod ServeParts
 pub mod Read
 pub mod ServeComplete
+pub mod AtTheEnd

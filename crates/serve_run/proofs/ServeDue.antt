@@ -1,5 +1,5 @@
 -- What a dialogue over files comes to is due.
-use Rattle.std.proofs.Common.{◌≡◌, ◌≤◌, ℕ, List, ◌++◌, Result, Err, inl, inr, ⊎_elim, refl, ap, sym, subst, arith}
+use Rattle.std.proofs.Common.{◌≡◌, ◌∙◌, ◌≤◌, ℕ, List, ◌++◌, Result, Err, inl, inr, ⊎_elim, refl, ap, sym, subst, arith}
 use Rattle.process_flow.specs.declared.source.Source.{Ghosts as Sources}
 use Rattle.process_flow.specs.declared.sink.Sink.{Ghosts as Sinks}
 use Rattle.process_disk.specs.declared.rack.Rack.{Ghosts as Racks}
@@ -10,8 +10,9 @@ use Rattle.process_tree.specs.declared.plan.Plan.{Plan}
 use Rattle.schedule_model.specs.declared.history.History.{History}
 use Rattle.commute_table.specs.declared.catalog.Catalog.{Catalog}
 use Rattle.process_core.specs.Cores.{IsCore, history_of}
+use Rattle.history_files.specs.Groups.{OwesNothing}
 use Rattle.history_files.specs.Sound.{IsSound}
-use Rattle.engine_steps.specs.Engines.{EngineState, full_history}
+use Rattle.engine_steps.specs.Engines.{AreExactly, EngineState, full_history}
 use Rattle.engine_steps.specs.declared.engines.Phase.{Phase}
 use Rattle.engine_steps.specs.declared.engines.Phase.TheVariants.{Settled}
 use Rattle.engine_calls.specs.Acknowledged.{IsOneAhead}
@@ -25,11 +26,12 @@ use Rattle.command_input.specs.FilesLeft.{files}
 use Rattle.command_input.specs.Inputs.{input}
 use Rattle.command_input.specs.Outputs.{output}
 use Rattle.scenario_run.specs.Opening.{AreOpenedOn}
+use Rattle.scenario_run.proofs.LastCall.{in_no_doubt}
 use Rattle.scenario_run.proofs.OnlyOpened.{only_opened}
 use Rattle.history_opening.proofs.Rising.{rose_later}
 use Rattle.serve_run.specs.declared.command.Ending.{Ending}
 use Rattle.serve_run.specs.declared.command.Ending.TheVariants.{Told, Due}
-use Rattle.serve_run.specs.Dialogue.{AreTied}
+use Rattle.serve_run.specs.Dialogue.{AreTied, phase_by}
 use Rattle.serve_run.proofs.Tied.{all_tied_before}
 use Rattle.serve_run.specs.Serve.{IsHeld, IsHeldOn, IsNotBegun, IsNotServedOn, IsServed, OnEnding}
 
@@ -38,6 +40,9 @@ module _ {S K R B : Type 0} (s : Sources S) (k : Sinks K) (r : Racks R) (honest 
     (opened : AreOpenedOn opening.catalog (full_history opening.core) (files r entry) (files r opening.files.rack)) (machine : IsCore now.core)
     (read : now.phase ≡ Settled → IsKnown (r.disk now.files.rack) → IsSound now.catalog (full_history now.core) (r.disk now.files.rack).files)
     (each : now.phase ≡ Settled → IsKnown (r.disk now.files.rack) → EachImage (r.disk now.files.rack) (r.disk now.files.rack).moment (IsSound now.catalog (full_history now.core)))
+    (owes : now.phase ≡ Settled → OwesNothing now.files.stores)
+    (exactly : now.phase ≡ Settled → OwesNothing now.files.stores → IsKnown (r.disk now.files.rack) → AreExactly now.catalog (full_history now.core) (r.disk now.files.rack).files)
+    (exactly_each : now.phase ≡ Settled → OwesNothing now.files.stores → IsKnown (r.disk now.files.rack) → EachImage (r.disk now.files.rack) (r.disk now.files.rack).moment (AreExactly now.catalog (full_history now.core)))
     (later : r.faults entry ≤ r.faults opening.files.rack) where
   abbrev c : Catalog
   c = opening.catalog
@@ -76,6 +81,7 @@ module _ {S K R B : Type 0} (s : Sources S) (k : Sinks K) (r : Racks R) (honest 
       asked = is.asked;
       by_line = is.by_line;
       kept = subst KeptOn is.phase kept;
+      in_no_doubt = in_no_doubt r entry now c (phase_by is.status) (is.goes.tells ∙ tells) is.goes.catalog is.phase owes exactly exactly_each;
       tied = tied;
       disk = λ fault. rose_later (r.faults entry) (r.faults opening.files.rack) (r.faults now.files.rack) later (is.disk fault);
       read = is.read;

@@ -75,13 +75,13 @@ read_fault_isnt_disk_fault is = absurd (cc)
 want_isnt_disk_fault : faults.NoMemory ≢ faults.DiskFault
 want_isnt_disk_fault is = absurd (cc)
 
-disk_isnt_done : DiskFault ≢ Done
+pub disk_isnt_done : DiskFault ≢ Done
 disk_isnt_done is = absurd (cc)
 
-disk_isnt_read : DiskFault ≢ ReadFault
+pub disk_isnt_read : DiskFault ≢ ReadFault
 disk_isnt_read is = absurd (cc)
 
-disk_isnt_write : DiskFault ≢ WriteFault
+pub disk_isnt_write : DiskFault ≢ WriteFault
 disk_isnt_write is = absurd (cc)
 
 want_isnt_disk_cut : cuts.NoMemory ≢ cuts.DiskFault
@@ -313,7 +313,7 @@ module _ {K R B : Type 0} (k : Sinks K) (r : Racks R) (plans : List Plan) (d : D
     cut = record {
       tail = fault_line faults.DiskFault;
       status = DiskFault;
-      ends = (refl, is);
+      ends = inl (refl, is);
       told = told;
       asked = asked;
       by_line = by_line;

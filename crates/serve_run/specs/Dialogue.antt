@@ -1,5 +1,5 @@
 -- The lines of a driver one after another, each with its answer before the next is taken.
-use Rattle.std.specs.Prelude.{⊤, ◌≡◌, ◌≢◌, ◌⊎◌, ◌≤◌, ◌<◌, ◌+◌, ◌-◌, ◌^◌, ℕ, List, [], ◌∷◌, ◌++◌, flat_map, length, min, codes}
+use Rattle.std.specs.Prelude.{⊤, ◌≡◌, ◌≢◌, ◌⊎◌, ◌≤◌, ◌<◌, ◌+◌, ◌-◌, ◌^◌, ℕ, List, [], ◌∷◌, ◌++◌, flat_map, length, min, take, codes}
 use Rattle.std.specs.Prelude.{Option, Some, None}
 use Rattle.std.specs.Io.KnownBytes.{Appends, Consumes, IsAtEnd}
 use Rattle.process_flow.specs.Causes.{Rose}
@@ -207,19 +207,28 @@ abbrev pub IsAskedBy : Catalog → List Plan → Option (List ℕ) → Plan → 
 IsAskedBy c plans None p = ⊥
 IsAskedBy c plans (Some line) p = AsksToStart c plans line (request_of line) p
 
--- How a dialogue ends behind the lines that were answered, with what is printed last: by `stop`, or with its input; by a fault, or
+-- How a dialogue ends behind the lines that were answered, before its last call of the rack, with what is printed last: by `stop`, or with its input; by a fault, or
 -- for want of memory, which has a line; or the answer to line n, which was taken last, was not given whole. What the machine kept
 -- is what the answered lines make; or, where memory was wanting to print that answer or it was not given whole, that line too.
-abbrev pub EndsWith : Catalog → List Plan → DriverState → ℕ → Option (List ℕ) → List ℕ → CoreState → Status → Type 0
-EndsWith c plans last n unanswered tail now Done = (tail ≡ []) × (now ≡ last.core)
-EndsWith c plans last n unanswered tail now ReadFault = (tail ≡ refusal_line refusals.ReadFault) × (now ≡ last.core)
-EndsWith c plans last n unanswered tail now DiskFault = (tail ≡ refusal_line refusals.DiskFault) × (now ≡ last.core)
-EndsWith c plans last n unanswered tail now NoMemory =
+abbrev pub EndsBefore : Catalog → List Plan → DriverState → ℕ → Option (List ℕ) → List ℕ → CoreState → Status → Type 0
+EndsBefore c plans last n unanswered tail now Done = (tail ≡ []) × (now ≡ last.core)
+EndsBefore c plans last n unanswered tail now ReadFault = (tail ≡ refusal_line refusals.ReadFault) × (now ≡ last.core)
+EndsBefore c plans last n unanswered tail now DiskFault = (tail ≡ refusal_line refusals.DiskFault) × (now ≡ last.core)
+EndsBefore c plans last n unanswered tail now NoMemory =
     (tail ≡ refusal_line refusals.NoMemory)
     × ((now ≡ last.core) ⊎ ((line : List ℕ) × (unanswered ≡ Some line) × LeadsTo c plans last line (request_of line) now))
-EndsWith c plans last n unanswered tail now WriteFault =
+EndsBefore c plans last n unanswered tail now WriteFault =
     (line : List ℕ) × (unanswered ≡ Some line) × (t : DriverState) × IsAnswered c plans last n line t tail × (now ≡ t.core)
-EndsWith c plans last n unanswered tail now status = ⊥
+EndsBefore c plans last n unanswered tail now status = ⊥
+
+-- So it ends in all; or it ended so, at any status, and then a call of the rack failed when the files got what they were owed. What
+-- was told stays told, all of it or a beginning, and the status is that of a disk fault.
+abbrev pub EndsWith : Catalog → List Plan → DriverState → ℕ → Option (List ℕ) → List ℕ → CoreState → Status → Type 0
+EndsWith c plans last n unanswered tail now DiskFault =
+    EndsBefore c plans last n unanswered tail now DiskFault
+    ⊎ ((before : Status) × (whole : List ℕ) × (sent : ℕ) × EndsBefore c plans last n unanswered whole now before
+    × (tail ≡ take sent whole))
+EndsWith c plans last n unanswered tail now status = EndsBefore c plans last n unanswered tail now status
 
 -- no line feed stands among these bytes
 abbrev pub HasNoLine : List ℕ → Type 0

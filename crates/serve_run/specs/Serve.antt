@@ -31,6 +31,7 @@ use Rattle.command_input.specs.Inputs.{Input, most_input}
 use Rattle.command_input.specs.Outputs.{Output, output}
 use Rattle.command_input.specs.Scenarios.{all_refusing, refusing, scenario_tests, IsBound}
 use Rattle.scenario_run.specs.Completeness.{NothingFailed}
+use Rattle.scenario_run.specs.Ending.{AreInNoDoubt}
 use Rattle.scenario_run.specs.Opening.{opening_tests, IsNotOpenedWith}
 use Rattle.scenario_run.specs.Scenario.{IsSaidOfNone}
 use Rattle.driver_requests.specs.Readiness.{ready_text}
@@ -85,7 +86,8 @@ IsSpoken c plans h first now taken left d status =
     ⊎ ((d ≡ unspoken h) × (status ≡ WriteFault) × (now ≡ (begun_on c h).core))
 
 -- The machine opened on the history of the files, whoever was active began to complete, and it went on by the lines. What it kept
--- is kept in the files, and in what a crash leaves; each answer has its moment, and each fault its cause.
+-- is kept in the files, and in what a crash leaves; each answer has its moment, and each fault its cause. At the end nothing is in
+-- doubt in the files, unless a call of the rack failed.
 pub record IsServed (c : Catalog) (plans : List Plan) (first : ℕ) (taken : List ℕ) (before after : Input)
     (files files_after : Files) (d : Dialogue) (status : Status) : Type 0 where
   pub history : History
@@ -96,6 +98,7 @@ pub record IsServed (c : Catalog) (plans : List Plan) (first : ℕ) (taken : Lis
   pub asked : List Plan
   pub by_line : Each (IsAskedBy c plans d.unanswered) asked
   pub kept : AreKept c history now (IsOneAhead c asked now (phase_by status)) (phase_by status) files.disk files_after.disk
+  pub in_no_doubt : AreInNoDoubt c now (phase_by status) files.disk files_after.disk
   -- for each answer there is a moment at which it was whole, from which on every image has what the machine had come to
   pub tied : IsKnown files.disk → AreTied c history.events files.disk files_after.disk files.disk.moment d.exchanges
   pub disk : status ≡ DiskFault → Rose files.faults files_after.faults

@@ -4,9 +4,11 @@ ghost use Rattle.process_tree.specs.Order.{Each};
 ghost use Rattle.commute_table.specs.Operations.{IsCatalog};
 ghost use Rattle.process_core.specs.Cores.{IsCore};
 ghost use Rattle.history_files.specs.Boxes.{AreBoxes};
+ghost use Rattle.history_files.specs.Groups.{OwesNothing};
 ghost use Rattle.history_files.specs.Standing.{EachFits};
 ghost use Rattle.engine_steps.specs.Beginning.{IsPlanFor};
 ghost use Rattle.engine_steps.specs.Opening.{IsOpened};
+ghost use Rattle.engine_steps.specs.declared.engines.Phase.TheVariants as phase;
 ghost use Rattle.command_input.specs.Early.{comes_before_files};
 ghost use Rattle.command_input.specs.FilesLeft.{AreLeft, files};
 ghost use Rattle.command_input.specs.Inputs.{input};
@@ -94,6 +96,7 @@ fn hold<S: Source, K: Sink, R: Rack + Drop, B: Resource>(
         (IsHeld S.Source K.Sink R.Rack plans.now first reader.old source.old source.new sink.old sink.new engine.old engine.new)
         (λ found. (found ≡ Err Refusal.NoMemory) × (engine.new ≡ engine.old) × (sink.new ≡ sink.old)
         × (source.new ≡ source.old)) result }
+    ensures owes { engine.new.phase ≡ phase.Settled → OwesNothing engine.new.files.stores }
     ensures fits { EachFits B.Resource engine.new.files.stores }
 {
     engine.invariant_holds();

@@ -14,7 +14,7 @@ use Rattle.session_run.specs.Alike.{AreAlike, AreAlikeSessions}
 use Rattle.session_play.specs.Answering.{IsAnswered, IsCopy, IsCut}
 use Rattle.session_play.specs.Pieces.{session_of}
 use Rattle.session_play.specs.Playing.{Played, SessionState, plan_for, play}
-use Rattle.session_run.specs.Playthrough.{begun_on, behind, fault_line, play_all, printed_by, status_of, HasAnswered, HasPlayed}
+use Rattle.session_run.specs.Playthrough.{begun_on, behind, play_all, printed_by, status_of, HasAnswered, HasAnsweredTo}
 use Rattle.session_run.proofs.AlikeSessions.{ComeToSame, play_same}
 use Rattle.session_run.proofs.EqualPlans.{equal_plans}
 
@@ -66,45 +66,43 @@ module _ (c : Catalog) (plans : List Plan) (first : CoreState) where
     }
 
     -- it isn't, and the session ends
-    ends_by : (cut : Cut) (now_then : CoreState) → IsCut cut here now now_then
-        → HasPlayed c plans first now_then lines (text ++ fault_line (status_of cut)) (status_of cut)
+    ends_by : (cut : Cut) (now_then : CoreState) → IsCut cut here now now_then → HasAnsweredTo c plans first now_then lines text (status_of cut)
     ends_by DiskFault now_then left = record {
       answered = is.answered;
       rest = l ∷ rest;
       are = is.are;
-      printed = ap (λ xs. xs ++ fault_line (status_of DiskFault)) is.printed;
-      ends = ((λ none. absurd cc), subst (AreAlike before.state.core) (sym left) is.alike.cores);
+      printed = is.printed;
+      ends = inl (subst (AreAlike before.state.core) (sym left) is.alike.cores);
     }
     ends_by NoMemory now_then (inl left) = record {
       answered = is.answered;
       rest = l ∷ rest;
       are = is.are;
-      printed = ap (λ xs. xs ++ fault_line (status_of NoMemory)) is.printed;
+      printed = is.printed;
       ends = inl (subst (AreAlike before.state.core) (sym left) is.alike.cores);
     }
     ends_by NoMemory now_then (inr made) = record {
       answered = is.answered;
       rest = l ∷ rest;
       are = is.are;
-      printed = ap (λ xs. xs ++ fault_line (status_of NoMemory)) is.printed;
+      printed = is.printed;
       ends = inr (l, rest, refl, subst (λ (p : Played). AreAlike p.state.core now_then) (sym more) (subst (AreAlike own.state.core) (sym made) same.states.cores));
     }
 
-    pub played_cut : (cut : Cut) (now_then : CoreState) (said : List ℕ) → IsCut cut here now now_then → said ≡ text ++ fault_line (status_of cut)
-        → HasPlayed c plans first now_then lines said (status_of cut)
-    played_cut cut now_then said ends is_said = subst (λ xs. HasPlayed c plans first now_then lines xs (status_of cut)) (sym is_said) (ends_by cut now_then ends)
+    pub played_cut : (cut : Cut) (now_then : CoreState) (said : List ℕ) → IsCut cut here now now_then → said ≡ text → HasAnsweredTo c plans first now_then lines said (status_of cut)
+    played_cut cut now_then said ends is_said = subst (λ xs. HasAnsweredTo c plans first now_then lines xs (status_of cut)) (sym is_said) (ends_by cut now_then ends)
 
   -- memory is wanting before the first line
-  pub played_none : (lines : List Line) (text : List ℕ) → text ≡ fault_line lacks.NoMemory → HasPlayed c plans first first lines text lacks.NoMemory
+  pub played_none : (lines : List Line) (text : List ℕ) → text ≡ [] → HasAnsweredTo c plans first first lines text lacks.NoMemory
   played_none lines text is = record { answered = []; rest = lines; are = refl; printed = is; ends = inl (alike_itself first) }
 
   -- all are answered
-  pub played_all : (now : CoreState) (pieces queued : List Handed) (lines : List Line) (text : List ℕ) → HasAnswered c plans first now pieces queued lines [] text → HasPlayed c plans first now lines text Done
+  pub played_all : (now : CoreState) (pieces queued : List Handed) (lines : List Line) (text : List ℕ) → HasAnswered c plans first now pieces queued lines [] text → HasAnsweredTo c plans first now lines text Done
   played_all now pieces queued lines text is = record {
     answered = is.answered;
     rest = [];
     are = is.are;
-    printed = is.printed ∙ sym (append-nil (printed_by c plans first is.answered));
+    printed = is.printed;
     ends = (refl, is.alike.cores);
   }
 

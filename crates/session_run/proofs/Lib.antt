@@ -5,3 +5,4 @@ pub mod SessionDue
 pub mod SessionParts
 pub mod SessionComplete
 pub mod BadLines
+pub mod AtTheEnd

@@ -1,5 +1,5 @@
 -- The lines of a session, one after another.
-use Rattle.std.specs.Prelude.{◌≡◌, ◌≢◌, ◌⊎◌, ℕ, List, [], ◌∷◌, ◌++◌, codes}
+use Rattle.std.specs.Prelude.{◌≡◌, ◌≢◌, ◌⊎◌, ℕ, List, [], ◌∷◌, ◌++◌, codes, Result, Ok, Err}
 use Rattle.process_tree.specs.declared.plan.Plan.{Plan}
 use Rattle.commute_table.specs.declared.catalog.Catalog.{Catalog}
 use Rattle.process_core.specs.Cores.{CoreState}
@@ -41,16 +41,20 @@ fault_line DiskFault = refusal_text refusals.DiskFault ++ codes "\n"
 fault_line NoMemory = refusal_text refusals.NoMemory ++ codes "\n"
 fault_line status = []
 
--- How a session ended that answered these lines and not the rest: with the last line; or a call of the rack failed, or memory was
--- wanting, at the first of the rest. What the machine kept is what the answered lines make; or, where memory was wanting to print
--- an answer, that line too.
-abbrev pub EndsAt : Catalog → List Plan → CoreState → CoreState → List Line → List Line → Status → Type 0
-EndsAt c plans first now answered rest Done = (rest ≡ []) × AreAlike (core_by c plans first answered) now
-EndsAt c plans first now answered rest DiskFault = (rest ≢ []) × AreAlike (core_by c plans first answered) now
-EndsAt c plans first now answered rest NoMemory =
+-- These lines of a session were answered and not the rest. What the machine kept is what they make; or what the next line makes too,
+-- which took effect, though memory was wanting to print its answer.
+abbrev pub IsCutAt : Catalog → List Plan → CoreState → CoreState → List Line → List Line → Type 0
+IsCutAt c plans first now answered rest =
     AreAlike (core_by c plans first answered) now ⊎
     ((line : Line) × (others : List Line) × (rest ≡ line ∷ others)
     × AreAlike (core_by c plans first (answered ++ line ∷ [])) now)
+
+-- How a session ended that answered these lines and not the rest: with the last line; or memory was wanting at the first of the
+-- rest; or a call of the rack failed, at the first of the rest or when the files got what they were owed at the end.
+abbrev pub EndsAt : Catalog → List Plan → CoreState → CoreState → List Line → List Line → Status → Type 0
+EndsAt c plans first now answered rest Done = (rest ≡ []) × AreAlike (core_by c plans first answered) now
+EndsAt c plans first now answered rest DiskFault = IsCutAt c plans first now answered rest
+EndsAt c plans first now answered rest NoMemory = IsCutAt c plans first now answered rest
 EndsAt c plans first now answered rest status = ⊥
 
 -- A machine that was this one is now that one by lines of a session: these were answered, in order, and so it ended.
@@ -60,6 +64,15 @@ pub record HasPlayed (c : Catalog) (plans : List Plan) (first now : CoreState) (
   pub rest : List Line
   pub are : lines ≡ answered ++ rest
   pub printed : text ≡ printed_by c plans first answered ++ fault_line status
+  pub ends : EndsAt c plans first now answered rest status
+
+-- The same before the line of a fault is printed.
+pub record HasAnsweredTo (c : Catalog) (plans : List Plan) (first now : CoreState) (lines : List Line) (text : List ℕ)
+    (status : Status) : Type 0 where
+  pub answered : List Line
+  pub rest : List Line
+  pub are : lines ≡ answered ++ rest
+  pub printed : text ≡ printed_by c plans first answered
   pub ends : EndsAt c plans first now answered rest status
 
 -- Of the lines of a session that began on a machine these are left: those before were answered, and this was printed.
@@ -74,3 +87,8 @@ pub record HasAnswered (c : Catalog) (plans : List Plan) (first now : CoreState)
 abbrev pub status_of : Cut → Status
 status_of cuts.DiskFault = DiskFault
 status_of cuts.NoMemory = NoMemory
+
+-- what one ends with whose lines were answered, or that was cut off
+abbrev pub status_after : {T : Type 0} → Result T Cut → Status
+status_after (Ok u) = Done
+status_after (Err cut) = status_of cut

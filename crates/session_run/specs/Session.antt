@@ -20,6 +20,7 @@ use Rattle.command_input.specs.declared.scenario.NoPlans.{NoPlans}
 use Rattle.command_input.specs.FilesLeft.{Files, before_files}
 use Rattle.command_input.specs.Inputs.{Input, text_test, IsWholeText}
 use Rattle.command_input.specs.Scenarios.{all_refusing, refusing, scenario_tests, IsBound}
+use Rattle.scenario_run.specs.Ending.{AreInNoDoubt}
 use Rattle.scenario_run.specs.Opening.{idle_opening_tests, IsNotOpenedFor}
 use Rattle.scenario_run.specs.Scenario.{IsSaidOfNone}
 use Rattle.session_text.specs.declared.line.Line.{Line}
@@ -67,7 +68,8 @@ phase_by statuses.DiskFault = Closed
 phase_by status = Settled
 
 -- The machine opened on the history of the files, in which no process is active, and went on by the lines. What it kept is kept in
--- the files, and in what a crash leaves; where a call of the rack failed, its count of faults rose.
+-- the files, and in what a crash leaves; at the end nothing is in doubt in them, unless a call of the rack failed, and then its count
+-- of faults rose.
 pub record IsSession (c : Catalog) (plans : List Plan) (lines : List Line) (before after : Files) (text : List ℕ)
     (status : Status) : Type 0 where
   pub history : History
@@ -76,6 +78,7 @@ pub record IsSession (c : Catalog) (plans : List Plan) (lines : List Line) (befo
   pub machine : IsCore now
   pub played : HasPlayed c plans (opened_on c.conflicts history.plans history.events) now lines text status
   pub kept : AreKept c history now (IsOneAhead c plans now (phase_by status)) (phase_by status) before.disk after.disk
+  pub in_no_doubt : AreInNoDoubt c now (phase_by status) before.disk after.disk
   pub fault : status ≡ statuses.DiskFault → Rose before.faults after.faults
 
 -- Memory was wanting before the first line: nothing was kept.

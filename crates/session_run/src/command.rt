@@ -5,8 +5,10 @@ ghost use Rattle.process_tree.specs.Order.{Each};
 ghost use Rattle.commute_table.specs.Operations.{IsCatalog};
 ghost use Rattle.process_core.specs.Cores.{IsCore};
 ghost use Rattle.history_files.specs.Boxes.{AreBoxes};
+ghost use Rattle.history_files.specs.Groups.{OwesNothing};
 ghost use Rattle.history_files.specs.Standing.{EachFits};
 ghost use Rattle.engine_steps.specs.Beginning.{IsPlanFor};
+ghost use Rattle.engine_steps.specs.declared.engines.Phase.TheVariants as phase;
 ghost use Rattle.engine_calls.specs.Runs.{GoesOn, IsReady};
 ghost use Rattle.command_refusals.specs.declared.status.Status.TheVariants as statuses;
 ghost use Rattle.command_input.specs.Early.{comes_before_files};
@@ -86,6 +88,7 @@ fn said_on<R: Rack + Drop, B: Resource>(
         (λ s. s.status ≡ statuses.DiskFault → Rose (R.faults engine.old.files.rack) (R.faults engine.new.files.rack)) }
     ensures refused { IfErr result (λ r. (r ≡ Refusal.NoMemory) × (engine.new ≡ engine.old)) }
     ensures goes { GoesOn R.Rack plans.now engine.old engine.new }
+    ensures owes { IfOk result (λ s. engine.new.phase ≡ phase.Settled → OwesNothing engine.new.files.stores) }
     ensures fits { EachFits B.Resource engine.new.files.stores }
 {
     engine.invariant_holds();

@@ -24,7 +24,8 @@ returns-in-Ok-clause-due g c =
     let sound = c.invariant_holds.ensures in
     run_anew_due g.R.Rack g.met.R.Rack.honest (asked g.G.Gate c.args.gate.now c.run_on-found.new.gate) c.args.parts.rack c.into_parts.result.rack opening now c.args.bound.plans.items
     c.args.bound.catalog on.new sound.run.session.one_each on.rack.tells on.rack.later on.rack.follow (λ told. (on.sound told).empty) (sound.read on.new.phase) (sound.each on.new.phase)
-    ran.goes c.invariant_holds-in-Ok.ensures.read c.invariant_holds-in-Ok.ensures.each c.into_parts.ensures.rack c.run_on-found.result ran.ran ran.refused
+    ran.goes c.invariant_holds-in-Ok.ensures.read c.invariant_holds-in-Ok.ensures.each ran.owes c.invariant_holds-in-Ok.ensures.exactly c.invariant_holds-in-Ok.ensures.exactly_each
+    c.into_parts.ensures.rack c.run_on-found.result ran.ran ran.refused
 
 pub returns-in-Err-clause-due : goal.returns-in-Err-clause-due
 returns-in-Err-clause-due g c =

@@ -21,7 +21,8 @@ returns-in-Ok-clause-due g c =
     let on = c.in-Ok.ensures in
     let ran = c.run_on-engine.ensures in
     run_of g.R.Rack c.racks_are_honest.ensures (asked_gates g.G.Gate c.args.gates.items c.run_on-engine.result.gates.items) c.args.parts.rack c.into_parts.result.rack opening now c.args.bound.plans.items
-    on.opened.0 on.idle.1 c.invariant_holds.ensures.run.session.one_each on.rack.tells on.rack.later on.on ran.goes c.invariant_holds-in-Ok.ensures.read c.invariant_holds-in-Ok.ensures.each c.into_parts.ensures.rack
+    on.opened.0 on.idle.1 c.invariant_holds.ensures.run.session.one_each on.rack.tells on.rack.later on.on ran.goes c.invariant_holds-in-Ok.ensures.read c.invariant_holds-in-Ok.ensures.each
+    ran.owes c.invariant_holds-in-Ok.ensures.exactly c.invariant_holds-in-Ok.ensures.exactly_each c.into_parts.ensures.rack
     c.args.bound.catalog c.run_on-engine.result.found on.idle.0 ran.ran ran.refused
 
 pub returns-clause-due : goal.returns-clause-due

@@ -1,4 +1,4 @@
-use Rattle.std.proofs.Common.{◌≡◌, ◌∙◌, List, [], ◌∷◌, ◌++◌, None, ap, sym, subst, append_assoc}
+use Rattle.std.proofs.Common.{◌≡◌, ◌∙◌, List, [], ◌∷◌, ◌++◌, None, refl, ap, sym, subst, append_assoc}
 use Rattle.std.specs.Vec.Iter.{into_iter_items}
 use Rattle.process_tree.specs.Order.{Each}
 use Rattle.process_tree.specs.declared.plan.Plan.{Plan}
@@ -23,6 +23,7 @@ loop-plan-init g c =
       plans = subst (Each (λ p. IsPlanFor c.args.engine.now.catalog p × IsGoodPlan p)) (sym all) c.requires.plans;
       fit = subst (λ (ps : List Plan). limit_passed c.args.engine.now.core ps ≡ None) (sym all) c.requires.fit;
       goes = goes_none g.R.Rack c.args.plans.items c.args.engine.now c.invariant_holds.ensures.run (c.invariant_holds.ensures.each c.requires.ready.settled);
+      stores = refl;
     }
 
 pub start_one-requires-clause-free : goal.start_one-requires-clause-free
@@ -56,6 +57,7 @@ loop-plan-preserved g c =
       fit = subst (λ k. limit_passed k later ≡ None) (sym now.core) (others_fit core is p plans.0.1 later fits);
       goes = goes_then g.R.Rack c.args.plans.items c.args.engine.now c.loop-plan.engine c.start_one.new.engine inv.ready.settled is.session.one_each
           (g.met.R.Rack.honest c.start_one.new.engine.files.rack) inv.goes went;
+      stores = c.start_one.ensures.stores ∙ inv.stores;
     }
 
 pub returns-in_err-start_one-clause-goes : goal.returns-in_err-start_one-clause-goes

@@ -19,6 +19,7 @@ invariant-loop-plan g l = record {
   plans : Each (λ p. IsPlanFor l.engine.catalog p × IsGoodPlan p) (into_iter_items l.rest);
   fit : limit_passed l.engine.core (into_iter_items l.rest) ≡ None;
   goes : GoesOn g.R.Rack l.fn.plans.items l.fn.engine l.engine;
+  stores : l.engine.files.stores ≡ l.fn.engine.files.stores;
 }
 
 abbrev pub decreases-loop-plan : goal.decreases-loop-plan

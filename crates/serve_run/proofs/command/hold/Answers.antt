@@ -1,5 +1,7 @@
-use Rattle.std.proofs.Common.{◌∙◌, [], ap, refl, subst}
+use Rattle.std.proofs.Common.{◌∙◌, [], ap, refl, subst, sym}
 use Rattle.std.specs.Io.KnownBytes.{Appends}
+use Rattle.history_files.specs.Groups.{OwesNothing}
+use Rattle.engine_steps.specs.Engines.{EngineState}
 use Rattle.command_refusals.specs.declared.status.Status.TheVariants.{WriteFault}
 use Rattle.command_input.specs.Outputs.{output, IsTold}
 use Rattle.driver_requests.specs.Readiness.{ready_text}
@@ -32,3 +34,6 @@ returns-clause-held g c =
     held_up g.S.Source g.K.Sink g.R.Rack g.met.R.Rack.honest c.args.plans.now c.args.engine.now c.complete_all.new.engine c.args.source.now c.args.reader.now c.args.first c.args.sink.now c.give.new.sink c.in-Some.status
     c.requires.opened c.complete_all.ensures.engine c.complete_all.ensures.goes
     (part.0, subst (λ t. IsTold WriteFault t (output g.K.Sink c.args.sink.now) (output g.K.Sink c.give.new.sink) c.in-Some.status) text part.1, part.2)
+
+pub returns-clause-owes : goal.returns-clause-owes
+returns-clause-owes g c settled = subst (λ (e : EngineState g.row.R.Denot g.row.B.Denot). OwesNothing e.files.stores) (sym c.complete_all.ensures.engine) c.requires.opened.owes

@@ -1,80 +1,45 @@
-use Rattle.std.proofs.Common.{[], ◌∷◌, ◌++◌, arith, inl, inr, refl, subst, sym}
-use Rattle.std.proofs.KnownBytes.{Consumes-nil}
-use Rattle.process_tree.specs.Order.{Each}
-use Rattle.engine_steps.specs.Beginning.{IsPlanFor}
-use Rattle.session_play.specs.AtHand.{hand_of, none_at_hand}
-use Rattle.serve_run.specs.Dialogue.{IsBetween, IsExchange, state_at}
-use Rattle.serve_run.specs.declared.faults.Fault.TheVariants.{NoMemory}
-use Rattle.serve_run.proofs.Exchanges.{one_more}
-use Rattle.serve_run.proofs.Turns.{over_by_fault}
+use Rattle.std.proofs.Common.{◌≡◌, ◌∙◌, sym}
+use Rattle.engine_steps.specs.Engines.{EngineState}
+use Rattle.engine_steps.specs.declared.engines.Phase.TheVariants.{Settled}
+use Rattle.session_play.specs.AtHand.{none_at_hand}
+use Rattle.serve_run.specs.Dialogue.{state_at}
+use Rattle.scenario_run.proofs.LastCall.{settled_or_closed}
+use Rattle.serve_run.proofs.AtTheEnd.{ended_failed, settled_so_far, still_ended}
 use Rattle.serve_run.proofs.dialogue.converse.Goals as goal
 
-pub returns-in-Some-clause-held : goal.returns-in-Some-clause-held
-returns-in-Some-clause-held g c =
-    let so_far = c.loop.invariant.exchanged in (
-      (hand_of c.exchange.new.hand),
-      c.loop.number,
-      record {
-        exchanges = so_far.0;
-        last = state_at c.loop.source c.loop.reader c.loop.sink c.loop.engine (hand_of c.loop.hand) c.loop.number;
-        exchanged = so_far.1;
-        over = c.in-Some.ensures.over;
-      },
-    )
+pub settle-requires-clause-ready : goal.settle-requires-clause-ready
+settle-requires-clause-ready g c =
+    let talk = c.talk-status in
+    record { settled = settled_so_far talk.new.engine talk.ensures.held.2.over.cut.status talk.ensures.held.2.over.cut.phase c.in-Ok.ensures.open; fits = talk.ensures.fits }
 
-pub loop-preserved : goal.loop-preserved
-loop-preserved g c =
-    let so_far = c.loop.invariant.exchanged in
-    let on = c.in_default-exchange.ensures.on in
+pub returns-in-Ok-settle-clause-held : goal.returns-in-Ok-settle-clause-held
+returns-in-Ok-settle-clause-held g c =
+    let talk = c.talk-status in
+    let held = talk.ensures.held in
     let first = state_at c.args.source.now c.args.reader.now c.args.sink.now c.args.engine.now none_at_hand c.args.first in
-    record {
-      exchanged = (
-        so_far.0 ++ on.0 ∷ [],
-        one_more g.S.Source g.K.Sink g.R.Rack g.met.R.Rack.honest c.args.plans.now first
-            (state_at c.loop.source c.loop.reader c.loop.sink c.loop.engine (hand_of c.loop.hand) c.loop.number)
-            (state_at c.exchange.new.source c.exchange.new.reader c.exchange.new.sink c.exchange.new.engine (hand_of c.exchange.new.hand) c.saturating_add-number.result)
-            so_far.0 on.0 so_far.1
-            (subst (λ n. IsExchange g.S.Source g.K.Sink g.R.Rack c.args.plans.now on.0 (state_at c.loop.source c.loop.reader c.loop.sink c.loop.engine (hand_of c.loop.hand) c.loop.number)
-            (state_at c.exchange.new.source c.exchange.new.reader c.exchange.new.sink c.exchange.new.engine (hand_of c.exchange.new.hand) n)) (sym c.saturating_add-number.ensures) on.1),
-      );
-      between = on.1.between;
-      ready = c.in_default-exchange.ensures.ready;
-      plans = subst (λ k. Each (IsPlanFor k) c.args.plans.now) (sym on.1.goes.catalog) c.loop.invariant.plans;
-      at_hand = c.in_default-exchange.ensures.at_hand;
-    }
-
-pub returns-clause-held : goal.returns-clause-held
-returns-clause-held g c =
-    let so_far = c.loop.invariant.exchanged in (
-      (hand_of c.loop.hand),
-      c.loop.number,
-      record {
-        exchanges = so_far.0;
-        last = state_at c.loop.source c.loop.reader c.loop.sink c.loop.engine (hand_of c.loop.hand) c.loop.number;
-        exchanged = so_far.1;
-        over =
-            over_by_fault g.S.Source g.K.Sink g.R.Rack c.args.plans.now c.loop.source c.loop.source c.loop.reader c.loop.reader c.loop.sink c.tell_fault-2.new.sink c.loop.engine (hand_of c.loop.hand) c.loop.number c.loop.invariant.between
-            NoMemory c.tell_fault-2.result [] (Consumes-nil (g.S.Source.left c.loop.source)) (λ is. absurd (cc)) (inl refl) (omega arith) (inr refl) c.tell_fault-2.ensures;
-      },
+    let last = state_at talk.new.source talk.new.reader talk.new.sink talk.new.engine held.0 held.1 in
+    let settled : talk.new.engine.phase ≡ Settled = settled_so_far talk.new.engine held.2.over.cut.status held.2.over.cut.phase c.in-Ok.ensures.open in (
+      held.0,
+      held.1,
+      still_ended g.S.Source g.K.Sink g.R.Rack g.met.R.Rack.honest c.args.plans.now first last talk.result held.2 c.settle.new.engine c.invariant_holds.ensures.run settled c.settle.ensures.core c.settle.ensures.goes
+          c.in-Ok-settle.ensures.ready.settled,
     )
 
-pub returns-in_default-clause-held : goal.returns-in_default-clause-held
-returns-in_default-clause-held g c =
+pub returns-in-Err-clause-held : goal.returns-in-Err-clause-held
+returns-in-Err-clause-held g c =
+    let talk = c.talk-status in
+    let held = talk.ensures.held in
     let first = state_at c.args.source.now c.args.reader.now c.args.sink.now c.args.engine.now none_at_hand c.args.first in
-    let between : IsBetween g.R.Rack c.args.engine.now = record {
-      machine = c.invariant_holds.ensures.run;
-      settled = c.requires.ready.settled;
-      read = c.invariant_holds.ensures.read c.requires.ready.settled;
-      each = c.invariant_holds.ensures.each c.requires.ready.settled;
-    } in (
-      none_at_hand,
-      c.args.first,
-      record {
-        exchanges = [];
-        last = first;
-        exchanged = refl;
-        over =
-            over_by_fault g.S.Source g.K.Sink g.R.Rack c.args.plans.now c.args.source.now c.args.source.now c.args.reader.now c.args.reader.now c.args.sink.now c.tell_fault.new.sink c.args.engine.now none_at_hand c.args.first between
-            NoMemory c.tell_fault.result [] (Consumes-nil (g.S.Source.left c.args.source.now)) (λ is. absurd (cc)) (inl refl) (omega arith) (inr refl) c.tell_fault.ensures;
-      },
+    let last = state_at talk.new.source talk.new.reader talk.new.sink talk.new.engine held.0 held.1 in
+    let settled : talk.new.engine.phase ≡ Settled = settled_so_far talk.new.engine held.2.over.cut.status held.2.over.cut.phase c.in-Ok.ensures.open in (
+      held.0,
+      held.1,
+      ended_failed g.S.Source g.K.Sink g.R.Rack g.met.R.Rack.honest c.args.plans.now first last talk.result held.2 c.settle.new.engine c.invariant_holds.ensures.run settled c.settle.ensures.core c.settle.ensures.goes
+          c.in-Err.ensures.fault,
     )
+
+pub returns-in-Err-clause-owes : goal.returns-in-Err-clause-owes
+returns-in-Err-clause-owes g c settled = absurd (settled_or_closed c.settle.new.engine.phase settled c.in-Err.ensures.fault.0)
+
+pub returns-in-Err-not_closed-clause-owes : goal.returns-in-Err-not_closed-clause-owes
+returns-in-Err-not_closed-clause-owes g c settled = absurd (settled_or_closed c.talk-status.new.engine.phase settled c.in-Err-not_closed.ensures.closed.closed)

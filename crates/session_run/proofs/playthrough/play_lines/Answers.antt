@@ -1,107 +1,115 @@
-use Rattle.std.proofs.Common.{◌≡◌, ◌∙◌, ◌++◌, ◌-◌, [], length, take, drop, ap, subst, sym}
-use Rattle.process_tree.specs.Order.{Each}
-use Rattle.engine_steps.specs.Beginning.{IsPlanFor}
-use Rattle.engine_calls.proofs.Goes.{goes_none, goes_then}
-use Rattle.session_play.specs.Answering.{IsAnswered, IsCut}
-use Rattle.process_engine.proofs.StillQueued.{none_queued}
-use Rattle.process_engine.specs.Queues.{AreQueued}
-use Rattle.session_play.specs.AtHand.{Hand}
-use Rattle.session_play.specs.Pieces.{AreHandedBy, session_of}
-use Rattle.session_play.specs.Playing.{play}
-use Rattle.session_play.proofs.StartedLines.{planned_is_one}
-use Rattle.session_run.specs.Playthrough.{fault_line, status_of, HasAnswered, HasPlayed}
-use Rattle.command_refusals.specs.declared.status.Status.TheVariants.{NoMemory}
-use Rattle.session_run.proofs.AnsweredLines.{answered_more, answered_none, parted, played_cut, played_none}
+use Rattle.std.proofs.Common.{◌≡◌, ◌∙◌, List, Err, ap, append-nil, subst, sym}
+use Rattle.command_refusals.specs.declared.status.Status.TheVariants.{Done}
+use Rattle.scenario_run.proofs.LastCall.{closed_then, goes_to_end, owes_none}
+use Rattle.session_play.specs.declared.cut.Cut.{Cut}
+use Rattle.session_run.specs.Playthrough.{status_after, status_of, HasAnsweredTo, HasPlayed}
+use Rattle.session_run.proofs.AtTheEnd.{answered_to_end, cut_in, fault_at_end, is_still, only_disk, settled_at_end, with_fault}
 use Rattle.session_run.proofs.playthrough.play_lines.Goals as goal
 
-pub loop-rest-init : goal.loop-rest-init
-loop-rest-init g c =
-    let cat = c.args.engine.now.catalog in
-    let plans = c.args.plans.now in
-    let core = c.args.engine.now.core in
-    let lines = c.args.lines.now in
-    let hand = c.in-Ok.hand in
-    let pieces : hand.unfinished.items ≡ [] = ap (λ (h : Hand). h.unfinished) c.in-Ok.ensures in
-    let queued : hand.queued ≡ [] = ap (λ (h : Hand). h.queued) c.in-Ok.ensures in
-    record {
-      answered = subst (λ ps. HasAnswered cat plans core core ps hand.queued lines lines c.args.said.now.items) (sym pieces)
-          (subst (λ qs. HasAnswered cat plans core core [] qs lines lines c.args.said.now.items) (sym queued)
-          (subst (λ text. HasAnswered cat plans core core [] [] lines lines text) (sym c.requires.empty) (answered_none cat plans core lines)));
-      goes = goes_none g.R.Rack plans c.args.engine.now c.invariant_holds.ensures.run (c.invariant_holds.ensures.each c.requires.ready.settled);
-      ready = c.requires.ready;
-      core = c.invariant_holds.ensures.run;
-      plans = c.requires.plans;
-      at_hand = record {
-        handed = subst (AreHandedBy core) (sym pieces) tt;
-        queued = subst (AreQueued c.args.engine.now) (sym queued) (none_queued c.args.engine.now);
-      };
-      room = c.requires.room;
-    }
+pub settle_at_end-end-requires-clause-still : goal.settle_at_end-end-requires-clause-still
+settle_at_end-end-requires-clause-still g c =
+    is_still g.B.Resource g.R.Rack c.args.engine.now c.answer_lines-answered.new.engine c.answer_lines-answered.result c.answer_lines-answered.ensures.fault c.answer_lines-answered.ensures.ready
 
-pub loop-rest-preserved : goal.loop-rest-preserved
-loop-rest-preserved g c =
-    let inv = c.loop-rest.invariant in
-    let cat = c.args.engine.now.catalog in
+pub returns-in-Ok-clause-goes : goal.returns-in-Ok-clause-goes
+returns-in-Ok-clause-goes g c =
+    let told = c.answer_lines-answered in
+    let end = c.settle_at_end-end in
+    let old = c.args.engine.now in
+    let mid = told.new.engine in
+    let new = end.new.engine in
+    goes_to_end g.R.Rack c.args.plans.now old mid new c.invariant_holds-2.ensures.run.session.one_each (g.met.R.Rack.honest new.files.rack) told.ensures.goes end.ensures.goes
+
+pub returns-in-Ok-clause-owes : goal.returns-in-Ok-clause-owes
+returns-in-Ok-clause-owes g c settled =
+    let end = c.settle_at_end-end in
+    let mid = c.answer_lines-answered.new.engine in
+    let new = end.new.engine in
+    owes_none g.R.Rack new end.result end.ensures.owes (closed_then g.R.Rack mid new end.result end.ensures.fault) settled
+
+pub returns-in-Ok-clause-played : goal.returns-in-Ok-clause-played
+returns-in-Ok-clause-played g c =
+    let told = c.answer_lines-answered in
+    let end = c.settle_at_end-end in
+    let old = c.args.engine.now in
+    let mid = told.new.engine in
+    let new = end.new.engine in
+    let cut = c.cut_at_end in
+    let cat = old.catalog in
     let plans = c.args.plans.now in
-    let core = c.args.engine.now.core in
     let lines = c.args.lines.now in
-    let now = c.loop-rest.engine.core in
-    let pieces = c.loop-rest.hand.unfinished.items in
-    let queued = c.loop-rest.hand.queued in
-    let text = c.loop-rest.said.items in
-    let l = c.line-item.result in
-    let after = take (length c.loop-rest.rest.now - 1) (drop 1 c.loop-rest.rest.now) in
-    let before = subst (λ rest. HasAnswered cat plans core now pieces queued lines rest text) (parted c.loop-rest.rest.now l c.in-len1-up.len_at_least c.line-item.is) inv.answered in
-    let told = c.in_default-answer_line.ensures.answered in
-    let new = c.answer_line.new.engine in
-    let left = c.answer_line.new.hand.unfinished.items in
-    let waiting = c.answer_line.new.hand.queued in
-    let here = subst (λ k. IsAnswered (play k (session_of now pieces queued) l told.1.0) new.core left waiting told.0) inv.goes.catalog told.1.2 in
+    let text = told.new.said.items in
+    let answered = answered_to_end told.result cut.result end.result cut.ensures.ok cut.ensures.err cat plans old.core mid.core new.core lines text end.ensures.core told.ensures.answered in
+    with_fault cat plans old.core new.core lines text text Done (sym (append-nil text)) (subst (λ x. HasAnsweredTo cat plans old.core new.core lines text (status_after x)) c.in-Ok.is answered)
+
+pub returns-in-Ok-clause-ready : goal.returns-in-Ok-clause-ready
+returns-in-Ok-clause-ready g c other =
+    let told = c.answer_lines-answered in
+    let end = c.settle_at_end-end in
+    let old = c.args.engine.now in
+    let mid = told.new.engine in
+    let new = end.new.engine in
+    let cut = c.cut_at_end in
     record {
-      answered = subst (λ said. HasAnswered cat plans core new.core left waiting lines after said) (sym told.2) (answered_more cat plans core now pieces queued lines l after text told.1.0 before told.1.1 new.core left waiting told.0 here);
-      goes = goes_then g.R.Rack plans c.args.engine.now c.loop-rest.engine new inv.ready.settled inv.core.session.one_each (g.met.R.Rack.honest new.files.rack) inv.goes (c.answer_line.ensures.goes c.args.plans.now (planned_is_one c.args.plans.now _));
-      ready = c.answer_line.ensures.ready (λ bad. absurd (let is = c.in_default-answer_line.is in cc));
-      core = c.invariant_holds-in-len1-up.ensures.run;
-      plans = subst (λ k. Each (IsPlanFor k) plans) (sym (c.answer_line.ensures.goes c.args.plans.now (planned_is_one c.args.plans.now _)).catalog) inv.plans;
-      at_hand = c.in_default-answer_line.ensures.at_hand;
-      room = c.answer_line.ensures.room;
+      settled = settled_at_end g.B.Resource g.R.Rack old mid new told.ensures.goes.later told.result cut.result end.result cut.ensures.ok cut.ensures.err told.ensures.fault told.ensures.ready end.ensures.settled end.ensures.fault (λ same. absurd (let is = c.in-Ok.is in cc));
+      fits = end.ensures.fits;
     }
 
 pub returns-in-Err-clause-goes : goal.returns-in-Err-clause-goes
 returns-in-Err-clause-goes g c =
-    let inv = c.loop-rest.invariant in
-    let new = c.answer_line.new.engine in
-    goes_then g.R.Rack c.args.plans.now c.args.engine.now c.loop-rest.engine new inv.ready.settled inv.core.session.one_each (g.met.R.Rack.honest new.files.rack) inv.goes (c.answer_line.ensures.goes c.args.plans.now (planned_is_one c.args.plans.now _))
+    let told = c.answer_lines-answered in
+    let end = c.settle_at_end-end in
+    let old = c.args.engine.now in
+    let mid = told.new.engine in
+    let new = end.new.engine in
+    goes_to_end g.R.Rack c.args.plans.now old mid new c.invariant_holds-2.ensures.run.session.one_each (g.met.R.Rack.honest new.files.rack) told.ensures.goes end.ensures.goes
+
+pub returns-in-Err-clause-owes : goal.returns-in-Err-clause-owes
+returns-in-Err-clause-owes g c settled =
+    let end = c.settle_at_end-end in
+    let mid = c.answer_lines-answered.new.engine in
+    let new = end.new.engine in
+    owes_none g.R.Rack new end.result end.ensures.owes (closed_then g.R.Rack mid new end.result end.ensures.fault) settled
 
 pub returns-in-Err-clause-played : goal.returns-in-Err-clause-played
 returns-in-Err-clause-played g c =
-    let inv = c.loop-rest.invariant in
-    let cat = c.args.engine.now.catalog in
+    let told = c.answer_lines-answered in
+    let end = c.settle_at_end-end in
+    let old = c.args.engine.now in
+    let mid = told.new.engine in
+    let new = end.new.engine in
+    let cut = c.cut_at_end in
+    let cat = old.catalog in
     let plans = c.args.plans.now in
-    let core = c.args.engine.now.core in
     let lines = c.args.lines.now in
-    let now = c.loop-rest.engine.core in
-    let pieces = c.loop-rest.hand.unfinished.items in
-    let queued = c.loop-rest.hand.queued in
-    let text = c.loop-rest.said.items in
-    let l = c.line-item.result in
-    let after = take (length c.loop-rest.rest.now - 1) (drop 1 c.loop-rest.rest.now) in
-    let before = subst (λ rest. HasAnswered cat plans core now pieces queued lines rest text) (parted c.loop-rest.rest.now l c.in-len1-up.len_at_least c.line-item.is) inv.answered in
-    let told = c.in-Err.ensures.cut in
-    let cut = c.in-Err.cut in
-    let new = c.answer_line.new.engine.core in
-    let here = subst (λ k. IsCut cut (play k (session_of now pieces queued) l told.0) now new) inv.goes.catalog told.2 in
-    subst (λ s. HasPlayed cat plans core new lines c.add_fault-in-Err.new.said.items s) (sym c.status_of.ensures)
-    (played_cut cat plans core now pieces queued lines l after text told.0 before told.1 cut new c.add_fault-in-Err.new.said.items here
-    (c.add_fault-in-Err.ensures ∙ ap (λ xs. xs ++ fault_line (status_of cut)) c.in-Err.ensures.left))
+    let text = told.new.said.items in
+    let answered = answered_to_end told.result cut.result end.result cut.ensures.ok cut.ensures.err cat plans old.core mid.core new.core lines text end.ensures.core told.ensures.answered in
+    let all = c.add_fault.new.said.items in
+    let ends = status_of c.in-Err.cut in
+    subst (λ s. HasPlayed cat plans old.core new.core lines all s) (sym c.status_of.ensures)
+    (with_fault cat plans old.core new.core lines text all ends c.add_fault.ensures (subst (λ x. HasAnsweredTo cat plans old.core new.core lines text (status_after x)) c.in-Err.is answered))
 
-pub returns-in_default-clause-goes : goal.returns-in_default-clause-goes
-returns-in_default-clause-goes g c = goes_none g.R.Rack c.args.plans.now c.args.engine.now c.invariant_holds.ensures.run (c.invariant_holds.ensures.each c.requires.ready.settled)
+pub returns-in-Err-clause-fault : goal.returns-in-Err-clause-fault
+returns-in-Err-clause-fault g c same =
+    let told = c.answer_lines-answered in
+    let end = c.settle_at_end-end in
+    let old = c.args.engine.now in
+    let mid = told.new.engine in
+    let new = end.new.engine in
+    let cut = c.cut_at_end in
+    fault_at_end g.B.Resource g.R.Rack old mid new told.ensures.goes.later told.result cut.result end.result cut.ensures.ok cut.ensures.err told.ensures.fault told.ensures.ready
+    end.ensures.settled end.ensures.fault
+    (c.in-Err.is ∙ ap (λ (x : Cut). Err x) (only_disk c.in-Err.cut c.status_of.result c.status_of.ensures same))
 
-pub returns-in_default-clause-played : goal.returns-in_default-clause-played
-returns-in_default-clause-played g c =
-    let cat = c.args.engine.now.catalog in
-    let plans = c.args.plans.now in
-    let core = c.args.engine.now.core in
-    let lines = c.args.lines.now in
-    played_none cat plans core lines c.add_fault.new.said.items (c.add_fault.ensures ∙ ap (λ xs. xs ++ fault_line NoMemory) c.requires.empty)
+pub returns-in-Err-clause-ready : goal.returns-in-Err-clause-ready
+returns-in-Err-clause-ready g c other =
+    let told = c.answer_lines-answered in
+    let end = c.settle_at_end-end in
+    let old = c.args.engine.now in
+    let mid = told.new.engine in
+    let new = end.new.engine in
+    let cut = c.cut_at_end in
+    record {
+      settled = settled_at_end g.B.Resource g.R.Rack old mid new told.ensures.goes.later told.result cut.result end.result cut.ensures.ok cut.ensures.err told.ensures.fault told.ensures.ready end.ensures.settled end.ensures.fault
+          (λ same. other (c.status_of.ensures ∙ ap (λ x. status_of (cut_in x)) (sym c.in-Err.is ∙ same)));
+      fits = end.ensures.fits;
+    }

@@ -4,7 +4,7 @@ use Rattle.engine_steps.specs.Beginning.{IsPlanFor}
 use Rattle.engine_calls.specs.Runs.{IsReady}
 use Rattle.session_play.specs.AtHand.{AreAtHand, hand_of, none_at_hand}
 use Rattle.serve_run.specs.Dialogue.{AreExchanged, Exchange, IsBetween, state_at}
-use Rattle.serve_run.proofs.dialogue.converse.Given as goal
+use Rattle.serve_run.proofs.dialogue.talk.Given as goal
 
 -- the lines so far are answered, one after another
 abbrev pub invariant-loop : goal.invariant-loop

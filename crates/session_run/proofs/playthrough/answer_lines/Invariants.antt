@@ -5,7 +5,7 @@ use Rattle.engine_steps.specs.Beginning.{IsPlanFor}
 use Rattle.engine_calls.specs.Runs.{GoesOn, IsReady}
 use Rattle.session_run.specs.Playthrough.{HasAnswered}
 use Rattle.session_play.specs.AtHand.{AreAtHand}
-use Rattle.session_run.proofs.playthrough.play_lines.Given as goal
+use Rattle.session_run.proofs.playthrough.answer_lines.Given as goal
 
 -- the lines before those that are left are answered
 abbrev pub invariant-loop-rest : goal.invariant-loop-rest
