@@ -7,11 +7,13 @@ use Rattle.process_restart.proofs.LastCall.{outcome_still, settled_unless}
 use Rattle.process_restart.proofs.completing.complete.Goals as goal
 
 pub settle-requires : goal.settle-requires
-settle-requires g c = record { ready = record {
-  settled = settled_unless (full_history c.args.engine.now.core) c.take_turns-completion.new.engine.core c.take_turns-completion.new.engine.phase c.take_turns-completion.result
-      c.take_turns-completion.ensures.outcome c.in_default.not-DiskFault;
-  fits = c.take_turns-completion.ensures.fits;
-} }
+settle-requires g c = record {
+  ready = record {
+    settled = settled_unless (full_history c.args.engine.now.core) c.take_turns-completion.new.engine.core c.take_turns-completion.new.engine.phase c.take_turns-completion.result
+        c.take_turns-completion.ensures.outcome c.in_default.not-DiskFault;
+    fits = c.take_turns-completion.ensures.fits;
+  };
+}
 
 pub returns-in-Ok : goal.returns-in-Ok
 returns-in-Ok g c =
