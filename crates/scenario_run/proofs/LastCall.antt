@@ -1,8 +1,8 @@
 -- What an engine and what is said of it come to by the last call of a command.
-use Rattle.std.proofs.Common.{◌≡◌, ◌≤◌, ◌⊎◌, List, Result, Ok, Err, IfOk, IfErr, OnOk, inl, inr, refl, ap, sym, subst}
+use Rattle.std.proofs.Common.{◌≡◌, ◌≤◌, ◌⊎◌, List, Result, Ok, Err, IfOk, IfErr, OnOk, inl, inr, sym, subst}
 use Rattle.process_flow.specs.Causes.{Rose}
 use Rattle.process_disk.specs.declared.rack.Rack.{Ghosts as Racks}
-use Rattle.process_disk.specs.Disk.{Disk, IsHonest, Told}
+use Rattle.process_disk.specs.Disk.{IsHonest, Told}
 use Rattle.process_disk.specs.Images.{EachImage}
 use Rattle.process_disk.proofs.Images.{still_told}
 use Rattle.process_tree.specs.declared.plan.Plan.{Plan}

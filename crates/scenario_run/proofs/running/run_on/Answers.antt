@@ -1,13 +1,11 @@
-use Rattle.std.proofs.Common.{◌≡◌, ◌∙◌, ◌⊎◌, List, [], IfOk, IfErr, inl, inr, ⊎_elim, ap, sym, subst, map}
-use Rattle.process_flow.specs.Causes.{Rose}
+use Rattle.std.proofs.Common.{◌≡◌, ◌∙◌, [], inl, inr, ⊎_elim, sym, subst, map}
 use Rattle.history_files.specs.Groups.{OwesNothing}
-use Rattle.engine_steps.specs.declared.engines.Phase.TheVariants.{Settled, Closed}
+use Rattle.engine_steps.specs.declared.engines.Phase.TheVariants.{Settled}
 use Rattle.engine_steps.specs.Engines.{full_history}
 use Rattle.engine_calls.specs.GateAnswers.{counts_of}
 use Rattle.engine_calls.proofs.Goes.{goes_none, goes_then}
 use Rattle.process_core.specs.Cores.{CoreState}
 use Rattle.worker_gate.specs.ManyGates.{asked_gates}
-use Rattle.command_refusals.specs.declared.refusal.Refusal.TheVariants as refusals
 use Rattle.scenario_run.specs.Run.{HasGone, SaysRun}
 use Rattle.scenario_run.proofs.Causes.{so_ok}
 use Rattle.scenario_run.proofs.Gone.{gone_run, gone_started}
