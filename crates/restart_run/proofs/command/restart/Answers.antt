@@ -1,4 +1,4 @@
-use Rattle.std.proofs.Common.{◌≡◌, ◌∙◌, Err, IfErr, IfOk, Ok, Result, inr, map, refl, subst, sym}
+use Rattle.std.proofs.Common.{◌≡◌, ◌∙◌, Err, IfErr, IfOk, Ok, Result, inl, inr, map, refl, subst, sym}
 use Rattle.std.proofs.lemmas.Result.{IfOk-weaker}
 use Rattle.process_disk.specs.Disk.{Told}
 use Rattle.subsystem_store.specs.Opened.{Opened}
@@ -73,6 +73,18 @@ returns-in-Refused-clause-complete g c =
     c.open_refusal.ensures.refusal
     ∙ found_is_complete c.sound_files_are_opened.ensures gate before after (Err (open_refusal why))
     (refused_found gate before after why c.in-Refused.ensures.back.0.fault c.in-Refused.ensures.restarted) d h told sound quiet
+
+-- a report of all is there, or memory was wanting
+all_there : (r : Result Said Refusal) → IfOk r (λ s. s.status ≡ Done) → IfErr r (λ e. e ≡ NoMemory) → IsReportThere r
+all_there (Ok s) said refused = inl said
+all_there (Err e) said refused = refused
+
+pub returns-in-Ended-clause-complete : goal.returns-in-Ended-clause-complete
+returns-in-Ended-clause-complete g c = λ d h told sound quiet.
+    let e = c.in-Ended.engine in
+    all_there c.said_of_all-found.result
+    (IfOk-weaker c.said_of_all-found.result (SaysAll e.catalog e.core) (λ s. s.status ≡ Done) (λ s says. says.0) c.said_of_all-found.ensures.said)
+    c.said_of_all-found.ensures.refused
 
 -- a report of a part is there, or memory was wanting
 part_there : (r : Result Said Refusal) → IfOk r (λ s. s.status ≡ Exhausted) → IfErr r (λ e. e ≡ NoMemory) → IsReportThere r
