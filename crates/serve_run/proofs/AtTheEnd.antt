@@ -26,23 +26,23 @@ use Rattle.serve_run.proofs.Turns.{disk_isnt_done, disk_isnt_read, disk_isnt_wri
 
 -- a dialogue leaves its engine settled, unless a call of the rack failed
 by_status : (s : Status) → phase_by s ≢ Closed → phase_by s ≡ Settled
-by_status Done open = refl
-by_status BadWords open = refl
-by_status BadInput open = refl
-by_status IllFormed open = refl
-by_status Limit open = refl
-by_status Unfinished open = refl
-by_status BadFile open = refl
-by_status BookDiffers open = refl
-by_status ReadFault open = refl
-by_status WriteFault open = refl
-by_status DiskFault open = absurd (open refl)
-by_status Exhausted open = refl
-by_status NotReduced open = refl
-by_status NoMemory open = refl
+by_status Done unclosed = refl
+by_status BadWords unclosed = refl
+by_status BadInput unclosed = refl
+by_status IllFormed unclosed = refl
+by_status Limit unclosed = refl
+by_status Unfinished unclosed = refl
+by_status BadFile unclosed = refl
+by_status BookDiffers unclosed = refl
+by_status ReadFault unclosed = refl
+by_status WriteFault unclosed = refl
+by_status DiskFault unclosed = absurd (unclosed refl)
+by_status Exhausted unclosed = refl
+by_status NotReduced unclosed = refl
+by_status NoMemory unclosed = refl
 
 pub settled_so_far : {R B : Type 0} (e : EngineState R B) (s : Status) → e.phase ≡ phase_by s → e.phase ≢ Closed → e.phase ≡ Settled
-settled_so_far e s on open = on ∙ by_status s (λ closed. open (on ∙ closed))
+settled_so_far e s on unclosed = on ∙ by_status s (λ closed. unclosed (on ∙ closed))
 
 not_disk : {R B : Type 0} (e : EngineState R B) (s : Status) → e.phase ≡ phase_by s → e.phase ≡ Settled → s ≡ DiskFault → ⊥
 not_disk e s on settled is = settled_or_closed e.phase settled (on ∙ ap phase_by is)
