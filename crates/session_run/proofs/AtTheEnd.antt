@@ -72,7 +72,7 @@ module _ {T U : Type 0} (answered cut : Result T Cut) (end : Result U Refusal) (
       by (Err r) same off = subst (λ x. HasAnsweredTo c plans first now lines text (status_after x)) (sym off) (answered_fails c plans first now lines text (status_after answered) here)
 
 -- what cut an answer off
-pub cut_in : {T : Type 0} → Result T Cut → Cut
+abbrev pub cut_in : {T : Type 0} → Result T Cut → Cut
 cut_in (Ok u) = NoMemory
 cut_in (Err cut) = cut
 
