@@ -29,6 +29,7 @@ module _ (before mid after : Input) (files files_after : Files) (out out_after :
     asked = is.asked;
     by_line = is.by_line;
     kept = is.kept;
+    in_no_doubt = is.in_no_doubt;
     tied = is.tied;
     disk = is.disk;
     read = λ fault. rose_later before.faults mid.faults after.faults later (is.read fault);
