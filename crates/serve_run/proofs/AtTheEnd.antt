@@ -26,29 +26,29 @@ use Rattle.serve_run.proofs.Turns.{disk_isnt_done, disk_isnt_read, disk_isnt_wri
 
 -- a dialogue leaves its engine settled, unless a call of the rack failed
 by_status : (s : Status) → phase_by s ≢ Closed → phase_by s ≡ Settled
-by_status Done unclosed = refl
-by_status BadWords unclosed = refl
-by_status BadInput unclosed = refl
-by_status IllFormed unclosed = refl
-by_status Limit unclosed = refl
-by_status Unfinished unclosed = refl
-by_status BadFile unclosed = refl
-by_status BookDiffers unclosed = refl
-by_status ReadFault unclosed = refl
-by_status WriteFault unclosed = refl
-by_status DiskFault unclosed = absurd (unclosed refl)
-by_status Exhausted unclosed = refl
-by_status NotReduced unclosed = refl
-by_status NoMemory unclosed = refl
+by_status Done running = refl
+by_status BadWords running = refl
+by_status BadInput running = refl
+by_status IllFormed running = refl
+by_status Limit running = refl
+by_status Unfinished running = refl
+by_status BadFile running = refl
+by_status BookDiffers running = refl
+by_status ReadFault running = refl
+by_status WriteFault running = refl
+by_status DiskFault running = absurd (running refl)
+by_status Exhausted running = refl
+by_status NotReduced running = refl
+by_status NoMemory running = refl
 
 pub settled_so_far : {R B : Type 0} (e : EngineState R B) (s : Status) → e.phase ≡ phase_by s → e.phase ≢ Closed → e.phase ≡ Settled
-settled_so_far e s on unclosed = on ∙ by_status s (λ closed. unclosed (on ∙ closed))
+settled_so_far e s on running = on ∙ by_status s (λ closed. running (on ∙ closed))
 
 not_disk : {R B : Type 0} (e : EngineState R B) (s : Status) → e.phase ≡ phase_by s → e.phase ≡ Settled → s ≡ DiskFault → ⊥
 not_disk e s on settled is = settled_or_closed e.phase settled (on ∙ ap phase_by is)
 
 -- what was told is all of what was to be told, or a beginning
-IsTailSent : List ℕ → Output → Output → Type 0
+abbrev IsTailSent : List ℕ → Output → Output → Type 0
 IsTailSent tail before after = (sent : ℕ) × IsTold DiskFault (take sent tail) before after DiskFault
 
 tail_sent : (s ended : Status) (tail : List ℕ) (before after : Output) → IsTold s tail before after ended → IsTailSent tail before after
@@ -87,7 +87,7 @@ module _ {S K R B : Type 0} (s : Sources S) (k : Sinks K) (r : Racks R) (honest 
   goes_on = goes_then r cut.asked is.last.engine b.engine new settled machine.session.one_each (honest new.files.rack) cut.goes (goes cut.asked)
 
   -- Where it didn't fail, it ended as before,
-  cut_settled : new.phase ≡ Settled → IsCutShort k r plans (driver_state is.last) is.last.number is.over.unanswered is.last.sink b.sink is.last.engine new ended
+  abbrev cut_settled : new.phase ≡ Settled → IsCutShort k r plans (driver_state is.last) is.last.number is.over.unanswered is.last.sink b.sink is.last.engine new ended
   cut_settled on = record {
     tail = cut.tail;
     status = cut.status;
@@ -121,7 +121,7 @@ module _ {S K R B : Type 0} (s : Sources S) (k : Sinks K) (r : Racks R) (honest 
   }
 
   -- and else at the status of a disk fault.
-  cut_failed : IsClosedByFault r b.engine new → IsCutShort k r plans (driver_state is.last) is.last.number is.over.unanswered is.last.sink b.sink is.last.engine new DiskFault
+  abbrev cut_failed : IsClosedByFault r b.engine new → IsCutShort k r plans (driver_state is.last) is.last.number is.over.unanswered is.last.sink b.sink is.last.engine new DiskFault
   cut_failed (closed, rose) =
       let sent = tail_sent cut.status ended cut.tail (output k is.last.sink) (output k b.sink) cut.told in
       record {

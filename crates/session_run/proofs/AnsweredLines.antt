@@ -14,7 +14,7 @@ use Rattle.session_run.specs.Alike.{AreAlike, AreAlikeSessions}
 use Rattle.session_play.specs.Answering.{IsAnswered, IsCopy, IsCut}
 use Rattle.session_play.specs.Pieces.{session_of}
 use Rattle.session_play.specs.Playing.{Played, SessionState, plan_for, play}
-use Rattle.session_run.specs.Playthrough.{begun_on, behind, play_all, printed_by, status_of, HasAnswered, HasAnsweredTo}
+use Rattle.session_run.specs.Playthrough.{begun_on, behind, play_all, status_of, HasAnswered, HasAnsweredTo}
 use Rattle.session_run.proofs.AlikeSessions.{ComeToSame, play_same}
 use Rattle.session_run.proofs.EqualPlans.{equal_plans}
 

@@ -1,4 +1,4 @@
-use Rattle.std.proofs.Common.{◌≡◌, ◌∙◌, ◌++◌, ◌-◌, [], length, take, drop, ap, subst, sym}
+use Rattle.std.proofs.Common.{◌≡◌, ◌-◌, [], length, take, drop, ap, subst, sym}
 use Rattle.process_tree.specs.Order.{Each}
 use Rattle.engine_steps.specs.Beginning.{IsPlanFor}
 use Rattle.engine_calls.proofs.Goes.{goes_none, goes_then}

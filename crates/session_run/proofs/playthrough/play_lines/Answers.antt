@@ -1,4 +1,4 @@
-use Rattle.std.proofs.Common.{◌≡◌, ◌∙◌, List, Err, ap, append-nil, subst, sym}
+use Rattle.std.proofs.Common.{◌∙◌, Err, ap, append-nil, subst, sym}
 use Rattle.command_refusals.specs.declared.status.Status.TheVariants.{Done}
 use Rattle.scenario_run.proofs.LastCall.{closed_then, goes_to_end, owes_none}
 use Rattle.session_play.specs.declared.cut.Cut.{Cut}
