@@ -46,6 +46,15 @@ def want(holds: object, what: str) -> None:
         raise Failure(what)
 
 
+def expect(what: str, told: object, wanted: object) -> None:
+    want(told == wanted, f"{what}: {end_of(told)} and not {end_of(wanted)}")
+
+
+def end_of(told: object) -> str:
+    text = told if isinstance(told, str) else repr(told)
+    return text if len(text) <= 2000 else f"..{text[-2000:]}"
+
+
 @contextlib.contextmanager
 def at(place: str) -> Iterator[None]:
     """A failure within is told with this place."""
