@@ -12,7 +12,8 @@ TOP = os.path.dirname(os.path.dirname(os.path.dirname(os.path.realpath(__file__)
 PYTHON = "/usr/bin/python3"
 sys.path[:0] = [f"{TOP}/tests", f"{TOP}/examples/shop", f"{TOP}/examples/service", f"{TOP}/clients/python", f"{TOP}/service"]
 
-from shared import PROGRAM, Failure, children, kill  # noqa: E402
+from drivers import children, kill  # noqa: E402
+from shared import PROGRAM, Failure  # noqa: E402
 from shop_workers import opened  # noqa: E402  which makes the shop known
 
 import audit  # noqa: E402
