@@ -3,18 +3,17 @@ import http.client
 import json
 import os
 import shutil
-import signal
 import socket
 import subprocess
 import sys
 import time
 
 TOP = os.path.dirname(os.path.dirname(os.path.dirname(os.path.realpath(__file__))))
-PROGRAM = os.path.abspath(os.environ.get("PROGRAM", f"{TOP}/tps"))
 PYTHON = "/usr/bin/python3"
-sys.path[:0] = [f"{TOP}/examples/shop", f"{TOP}/examples/service", f"{TOP}/clients/python", f"{TOP}/service"]
-sys.dont_write_bytecode = True
+sys.path[:0] = [f"{TOP}/tests", f"{TOP}/examples/shop", f"{TOP}/examples/service", f"{TOP}/clients/python", f"{TOP}/service"]
 
+from drivers import children, kill  # noqa: E402
+from shared import PROGRAM, Failure  # noqa: E402
 from shop_workers import opened  # noqa: E402  which makes the shop known
 
 import audit  # noqa: E402
@@ -25,10 +24,6 @@ from sihtolem.worker import Connection  # noqa: E402
 
 OPERATIONS = ["reserve", "deliver", "charge", "ship", "keep", "place_north", "place_south"]
 PATIENCE = 60
-
-
-class Failure(Exception):
-    pass
 
 
 def why_skipped():
@@ -149,23 +144,6 @@ def wait_for(is_so, what, seconds=PATIENCE):
         if time.monotonic() > end:
             raise Failure(f"{what}: not within {seconds} s")
         time.sleep(0.1)
-
-
-def children(parent):
-    for name in filter(str.isdigit, os.listdir("/proc")):
-        try:
-            with open(f"/proc/{name}/stat") as file:
-                if int(file.read().rpartition(")")[2].split()[1]) == parent:
-                    yield int(name)
-        except (FileNotFoundError, ProcessLookupError):
-            pass
-
-
-def kill(process):
-    try:
-        os.kill(process, signal.SIGKILL)
-    except ProcessLookupError:
-        pass
 
 
 def end(process):
