@@ -45,10 +45,14 @@ pub struct Engine<R: Rack + Drop, B: Drop = Box<dyn Resource + Send>> {
     pub(crate) phase: Phase,
     // where the effects of a group are listed, so that preparing them takes no memory
     pub(crate) group: Lists,
+    // how many acts the history has, which is the number of the next effect
+    pub(crate) acts: u32,
 }
 
 impl<R: Rack + Drop, B: Drop> Model for Engine<R, B> {
-    ghost use Rattle.std.specs.Prelude.{◌≡◌};
+    ghost use Rattle.std.specs.Prelude.{◌≡◌, length};
+    ghost use Rattle.schedule_model.specs.Histories.{acts};
+    ghost use Rattle.process_core.specs.Cores.{history_of};
     ghost use Rattle.engine_steps.specs.Engines.{AreAtRest, EngineState, IsUnder, full_history};
     ghost use Rattle.engine_steps.specs.declared.engines.Phase.TheVariants.{Settled};
 
@@ -62,7 +66,8 @@ impl<R: Rack + Drop, B: Drop> Model for Engine<R, B> {
     ghost view = { λ e. record { core = e.core; catalog = e.catalog; files = e.files; phase = e.phase } };
 
     ghost invariant = { λ e. IsUnder e.catalog e.core ×
-        (e.phase ≡ Settled → AreAtRest e.catalog (full_history e.core) e.files (R.disk e.files.rack)) };
+        (e.phase ≡ Settled → AreAtRest e.catalog (full_history e.core) e.files (R.disk e.files.rack)) ×
+        (e.acts ≡ length (acts (history_of e.core))) };
 }
 
 impl<R: Rack + Drop, B: Drop> Engine<R, B> {

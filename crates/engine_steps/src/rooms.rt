@@ -12,7 +12,7 @@ ghost use Rattle.engine_steps.specs.Targets.{targets_of};
 ghost use Rattle.engine_steps.specs.declared.engines.Phase.TheVariants as phase;
 
 use crate::Engine;
-use crate::pieces::{act_of, acts_count};
+use crate::pieces::act_of;
 use commute_table::{Op, Verb};
 use history_files::subsystem_of;
 use process_core::Piece;
@@ -38,8 +38,7 @@ impl<R: Rack + Drop, B: Resource> Engine<R, B> {
     pub fn acts(&self) -> u32
         ensures { result ≡ length (acts (history_of self.now.core)) }
     {
-        self.core.run_holds();
-        acts_count(self.core.history().events.as_slice())
+        self.acts
     }
 
     /// Does nothing. It says that there are eight stores, each of its kind and on its file.

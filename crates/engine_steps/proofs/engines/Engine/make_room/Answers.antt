@@ -24,6 +24,7 @@ invariant_of-self g c = (
   c.self.invariant.0,
   λ settled. room_rests c.self.inside.catalog (full_history c.self.inside.core) c.subsystem_of-q.result c.self.inside.files c.make_room.new.self (g.R.Rack.disk c.make_room.new.self.rack) c.make_room.ensures.changes c.make_room.ensures.same.1
       (subst (λ r. AreAtRest c.self.inside.catalog (full_history c.self.inside.core) c.self.inside.files (g.R.Rack.disk r)) (sym c.make_room.ensures.same.0) (c.self.invariant.1 settled)),
+  c.self.invariant.2,
 )
 
 pub returns-clause-ok : goal.returns-clause-ok
