@@ -46,14 +46,12 @@ pub struct Engine<R: Rack + Drop, B: Drop = Box<dyn Resource + Send>> {
     // where the effects of a group are listed, so that preparing them takes no memory
     pub(crate) group: Lists,
     // how many acts the history has, which is the number of the next effect
-    pub(crate) acts: u32,
+    pub(crate) act_count: u32,
 }
 
 impl<R: Rack + Drop, B: Drop> Model for Engine<R, B> {
-    ghost use Rattle.std.specs.Prelude.{◌≡◌, length};
-    ghost use Rattle.schedule_model.specs.Histories.{acts};
-    ghost use Rattle.process_core.specs.Cores.{history_of};
-    ghost use Rattle.engine_steps.specs.Engines.{AreAtRest, EngineState, IsUnder, full_history};
+    ghost use Rattle.std.specs.Prelude.{◌≡◌};
+    ghost use Rattle.engine_steps.specs.Engines.{AreAtRest, EngineState, IsUnder, acts_of, full_history};
     ghost use Rattle.engine_steps.specs.declared.engines.Phase.TheVariants.{Settled};
 
     ghost Value = { EngineState R B };
@@ -67,7 +65,7 @@ impl<R: Rack + Drop, B: Drop> Model for Engine<R, B> {
 
     ghost invariant = { λ e. IsUnder e.catalog e.core ×
         (e.phase ≡ Settled → AreAtRest e.catalog (full_history e.core) e.files (R.disk e.files.rack)) ×
-        (e.acts ≡ length (acts (history_of e.core))) };
+        (e.act_count ≡ acts_of e.core) };
 }
 
 impl<R: Rack + Drop, B: Drop> Engine<R, B> {

@@ -142,7 +142,7 @@ impl<R: Rack + Drop, B: Resource> Engine<R, B> {
     {
         self.core.run_holds();
         self.group
-            .list_next(&self.core, &self.catalog, self.acts, events);
+            .list_next(&self.core, &self.catalog, self.act_count, events);
         effects_fit(self.group.as_slice());
         self.files.unstage_records();
         stage_each(&mut self.files, events);
@@ -215,7 +215,7 @@ impl<R: Rack + Drop, B: Resource> Engine<R, B> {
         journals_keep_histories();
         self.core.run_holds();
         fits_its_bytes(piece.process(), piece.step());
-        self.acts += acts_by(piece.work());
+        self.act_count += acts_by(piece.work());
         self.core.effected(piece)
     }
 

@@ -4,12 +4,11 @@ ghost use Rattle.std.specs.List.{list_all};
 ghost use Rattle.commute_table.specs.Operations.{is_good_op};
 ghost use Rattle.schedule_model.specs.Histories.{acts};
 ghost use Rattle.schedule_model.specs.Limits.{most_active};
-ghost use Rattle.process_core.specs.Cores.{history_of};
 ghost use Rattle.subsystem_store.specs.declared.effect.Effect.{Effect};
 ghost use Rattle.subsystem_store.specs.Bodies.{is_amount};
 ghost use Rattle.subsystem_store.specs.Laws.{FitsItsBytes};
 ghost use Rattle.history_files.specs.Groups.{FitEach};
-ghost use Rattle.engine_steps.specs.Engines.{full_history};
+ghost use Rattle.engine_steps.specs.Engines.{acts_of, full_history};
 ghost use Rattle.engine_steps.specs.Listing.{AreAmounts, AreNone, ListsEach, next_group, subsystems};
 
 use commute_table::{Catalog, Op};
@@ -67,7 +66,7 @@ impl Lists {
         events: &[Event],
     )
         requires good { list_all is_good_op catalog.now.ops ≡ true }
-        requires number { number ≡ length (acts (history_of core.now)) }
+        requires number { number ≡ acts_of core.now }
         requires few { length events.now ≤ most_active }
         ensures { self.new ≡ next_group catalog.now.ops (full_history core.now) events.now }
     {

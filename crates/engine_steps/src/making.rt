@@ -83,7 +83,7 @@ impl<R: Rack + Drop, B: Resource> Engine<R, B> {
                     files,
                     phase: Phase::Settled,
                     group,
-                    acts: 0,
+                    act_count: 0,
                 })
             }
             Err(refused) => Err(refused),

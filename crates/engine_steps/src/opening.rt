@@ -72,14 +72,14 @@ fn engine_on<R: Rack + Drop, B: Resource>(
 {
     match opened_core(alloc, &catalog, history) {
         Ok((core, group)) => {
-            let acts = acts_of(&core);
+            let act_count = acts_of(&core);
             Ok(Engine {
                 core,
                 catalog,
                 files,
                 phase: Phase::Settled,
                 group,
-                acts,
+                act_count,
             })
         }
         Err(_) => Err(closed(files)),

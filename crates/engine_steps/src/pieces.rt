@@ -3,9 +3,8 @@ ghost use Rattle.std.specs.Prelude.{◌≡◌, ◌<◌, ◌^◌, length};
 ghost use Rattle.schedule_model.specs.Histories.{acts};
 ghost use Rattle.machine_model.specs.declared.kept.Work.TheVariants.{Undo};
 ghost use Rattle.machine_model.specs.Progress.{same_work};
-ghost use Rattle.process_core.specs.Cores.{history_of};
 ghost use Rattle.history_files.specs.Laws.{next_effect};
-ghost use Rattle.engine_steps.specs.Engines.{full_history};
+ghost use Rattle.engine_steps.specs.Engines.{acts_of, full_history};
 ghost use Rattle.engine_steps.specs.Pieces.{act_of, acts_by};
 
 use crate::Engine;
@@ -36,7 +35,7 @@ fn acts_count(events: &[Event]) -> u32
 
 /// How many acts the history of a core has, by counting them.
 pub(crate) fn acts_of(core: &Core) -> u32
-    ensures { result ≡ length (acts (history_of core.now)) }
+    ensures { result ≡ acts_of core.now }
 {
     core.run_holds();
     acts_count(core.history().events.as_slice())
@@ -83,7 +82,7 @@ impl<R: Rack + Drop, B: Resource> Engine<R, B> {
         effect_of(
             self.catalog.ops.as_slice(),
             self.core.history().plans.as_slice(),
-            self.acts,
+            self.act_count,
             entry,
         )
     }

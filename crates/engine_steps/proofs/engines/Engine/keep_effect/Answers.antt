@@ -20,7 +20,7 @@ invariant_of-self g c =
     let fits : (p.process < 2 ^ 32) × (p.step < 2 ^ 16) = (subst (λ n. n < 2 ^ 32) c.process.ensures c.fits_its_bytes.ensures.0, subst (λ n. n < 2 ^ 16) c.step.ensures c.fits_its_bytes.ensures.1) in (
       core_under c.journals_keep_histories.ensures.made c.self.inside.catalog c.self.inside.core c.run_holds.ensures c.self.invariant.0 p handed out fits c.effected.new.self c.effected.ensures.core,
       λ settled. absurd (not_both c.self.inside.phase under_way settled),
-      acts_kept c.self.inside.core c.run_holds.ensures p handed out c.effected.new.self c.effected.ensures.core c.self.inside.acts c.acts_by.result c.self.invariant.2 (c.acts_by.ensures ∙ ap acts_by c.work.ensures),
+      acts_kept c.self.inside.core c.run_holds.ensures p handed out c.effected.new.self c.effected.ensures.core c.self.inside.act_count c.acts_by.result c.self.invariant.2 (c.acts_by.ensures ∙ ap acts_by c.work.ensures),
     )
 
 pub overflow_add-result : goal.overflow_add-result

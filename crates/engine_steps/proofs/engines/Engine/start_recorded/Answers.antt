@@ -51,7 +51,7 @@ invariant_of-self g c =
           (subst (λ r. IsMadeBy catalog r (full_history core) (history_with core p)) (sym entry) (made_after catalog core c.run_holds.ensures c.self.invariant.0 law p own room.good room.free))
           (under_after catalog core c.run_holds.ensures c.self.invariant.0 law p own room.good room.free)
           (come_with catalog core c.run_holds.ensures c.self.invariant.0 law p own room.good room.free adds old disk rest)),
-      acts_started core c.run_holds.ensures p room.free c.start_in.new.self after c.self.inside.acts c.self.invariant.2,
+      acts_started core c.run_holds.ensures p room.free c.start_in.new.self after c.self.inside.act_count c.self.invariant.2,
     )
 
 pub returns-in-Ok-clause-any_moment : goal.returns-in-Ok-clause-any_moment
