@@ -23,8 +23,8 @@ invariant_of-self g c =
       acts_kept c.self.inside.core c.run_holds.ensures p handed out c.effected.new.self c.effected.ensures.core c.self.inside.act_count c.acts_by.result c.self.invariant.2 (c.acts_by.ensures ∙ ap acts_by c.work.ensures),
     )
 
-pub overflow_add-result : goal.overflow_add-result
-overflow_add-result g c =
+pub overflow_add-self : goal.overflow_add-self
+overflow_add-self g c =
     let few = few_events c.self.inside.core c.run_holds.ensures in
     let counted = fewer_acts (history_of c.self.inside.core) in
     let one = one_at_most c.work.result in
