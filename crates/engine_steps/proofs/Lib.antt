@@ -11,6 +11,7 @@ pub mod StoresThere
 pub mod ExactFiles
 pub mod GroupSteps
 pub mod KeptEffects
+pub mod CountedActs
 pub mod MadeRoom
 pub mod EmptyGroups
 pub mod ListedEffects

@@ -2,6 +2,7 @@
 use Rattle.std.specs.Prelude.{◌≡◌, ◌<◌, ◌+◌, ℕ, [], length}
 use Rattle.process_disk.specs.Disk.{Disk, FileSet, Told}
 use Rattle.schedule_model.specs.declared.history.History.{History}
+use Rattle.schedule_model.specs.Histories.{acts}
 use Rattle.commute_table.specs.declared.catalog.Catalog.{Catalog}
 use Rattle.subsystem_store.specs.Laws.{IsGoodBook}
 use Rattle.subsystem_store.specs.Opened.{IsStoreOf}
@@ -25,6 +26,10 @@ pub record EngineState (R B : Type 0) : Type 0 where
 -- the history of a core, with the plans of all that started
 abbrev pub full_history : CoreState → History
 full_history core = record { plans = core.plans; events = history_of core }
+
+-- how many acts it has
+abbrev pub acts_of : CoreState → ℕ
+acts_of core = length (acts (history_of core))
 
 -- A core runs the processes of this catalog: by its table, and each plan is the one that the catalog binds.
 pub record IsUnder (c : Catalog) (core : CoreState) : Type 0 where

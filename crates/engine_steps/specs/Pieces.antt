@@ -1,10 +1,11 @@
 -- What a piece makes once it takes effect, and whether it may be worked on.
-use Rattle.std.specs.Prelude.{◌≡◌, Bool, false, List}
+use Rattle.std.specs.Prelude.{◌≡◌, ℕ, Bool, false, List}
 use Rattle.process_tree.specs.declared.entry.Entry.{Entry}
 use Rattle.process_tree.specs.declared.plan.Plan.{Plan}
 use Rattle.schedule_model.specs.declared.history.History.{History}
 use Rattle.schedule_model.specs.Course.{courses_of, op_of, key_of}
-use Rattle.machine_model.specs.declared.kept.Work.TheVariants.{Undo, End}
+use Rattle.machine_model.specs.declared.kept.Work.{Work}
+use Rattle.machine_model.specs.declared.kept.Work.TheVariants.{Forward, Undo, End}
 use Rattle.machine_model.specs.declared.replies.PieceState.TheVariants.{Out}
 use Rattle.machine_model.specs.Advance.{event_of}
 use Rattle.machine_model.specs.Moment.{Piece}
@@ -28,6 +29,12 @@ act_of plans p =
       key = key_of (courses_of plans) p.process p.step;
       undo = same_work p.work Undo;
     }
+
+-- how many acts work comes to: an end is none
+abbrev pub acts_by : Work → ℕ
+acts_by Forward = 1
+acts_by Undo = 1
+acts_by End = 0
 
 -- the history of a core with the event of a piece
 abbrev pub history_with : CoreState → Piece → History

@@ -45,11 +45,13 @@ pub struct Engine<R: Rack + Drop, B: Drop = Box<dyn Resource + Send>> {
     pub(crate) phase: Phase,
     // where the effects of a group are listed, so that preparing them takes no memory
     pub(crate) group: Lists,
+    // how many acts the history has, which is the number of the next effect
+    pub(crate) act_count: u32,
 }
 
 impl<R: Rack + Drop, B: Drop> Model for Engine<R, B> {
     ghost use Rattle.std.specs.Prelude.{◌≡◌};
-    ghost use Rattle.engine_steps.specs.Engines.{AreAtRest, EngineState, IsUnder, full_history};
+    ghost use Rattle.engine_steps.specs.Engines.{AreAtRest, EngineState, IsUnder, acts_of, full_history};
     ghost use Rattle.engine_steps.specs.declared.engines.Phase.TheVariants.{Settled};
 
     ghost Value = { EngineState R B };
@@ -62,7 +64,8 @@ impl<R: Rack + Drop, B: Drop> Model for Engine<R, B> {
     ghost view = { λ e. record { core = e.core; catalog = e.catalog; files = e.files; phase = e.phase } };
 
     ghost invariant = { λ e. IsUnder e.catalog e.core ×
-        (e.phase ≡ Settled → AreAtRest e.catalog (full_history e.core) e.files (R.disk e.files.rack)) };
+        (e.phase ≡ Settled → AreAtRest e.catalog (full_history e.core) e.files (R.disk e.files.rack)) ×
+        (e.act_count ≡ acts_of e.core) };
 }
 
 impl<R: Rack + Drop, B: Drop> Engine<R, B> {

@@ -32,7 +32,7 @@ ghost use Rattle.engine_steps.specs.Groups.{bodies_of, record_for, with_events};
 ghost use Rattle.engine_steps.specs.declared.engines.Phase.TheVariants as phase;
 
 use crate::listing::effects_fit;
-use crate::pieces::act_of;
+use crate::pieces::{act_of, acts_by};
 use crate::{Engine, Phase};
 use gate_log::DiskFault;
 use history_files::{Files, books_come_to_groups};
@@ -141,7 +141,8 @@ impl<R: Rack + Drop, B: Resource> Engine<R, B> {
         ensures rack { LeavesImages R.Rack self.old.files.rack self.new.files.rack (IsErr result) }
     {
         self.core.run_holds();
-        self.group.list_next(&self.core, &self.catalog, events);
+        self.group
+            .list_next(&self.core, &self.catalog, self.act_count, events);
         effects_fit(self.group.as_slice());
         self.files.unstage_records();
         stage_each(&mut self.files, events);
@@ -214,6 +215,7 @@ impl<R: Rack + Drop, B: Resource> Engine<R, B> {
         journals_keep_histories();
         self.core.run_holds();
         fits_its_bytes(piece.process(), piece.step());
+        self.act_count += acts_by(piece.work());
         self.core.effected(piece)
     }
 

@@ -8,10 +8,9 @@ ghost use Rattle.subsystem_store.specs.declared.effect.Effect.{Effect};
 ghost use Rattle.subsystem_store.specs.Bodies.{is_amount};
 ghost use Rattle.subsystem_store.specs.Laws.{FitsItsBytes};
 ghost use Rattle.history_files.specs.Groups.{FitEach};
-ghost use Rattle.engine_steps.specs.Engines.{full_history};
+ghost use Rattle.engine_steps.specs.Engines.{acts_of, full_history};
 ghost use Rattle.engine_steps.specs.Listing.{AreAmounts, AreNone, ListsEach, next_group, subsystems};
 
-use crate::pieces::acts_count;
 use commute_table::{Catalog, Op};
 use history_files::{SUBSYSTEMS, effect_of, subsystem_of};
 use process_core::Core;
@@ -57,20 +56,26 @@ impl Lists {
         self.lists.as_slice()
     }
 
-    /// Lists the effects that these events have behind the history of a core, each at its subsystem, and nothing else.
-    pub(crate) fn list_next(&mut self, core: &Core, catalog: &Catalog, events: &[Event])
+    /// Lists the effects that these events have behind the history of a core, which has so many acts, each at its subsystem, and
+    /// nothing else.
+    pub(crate) fn list_next(
+        &mut self,
+        core: &Core,
+        catalog: &Catalog,
+        number: u32,
+        events: &[Event],
+    )
         requires good { list_all is_good_op catalog.now.ops ≡ true }
+        requires number { number ≡ acts_of core.now }
         requires few { length events.now ≤ most_active }
         ensures { self.new ≡ next_group catalog.now.ops (full_history core.now) events.now }
     {
         core.run_holds();
-        let history = core.history();
-        let number = acts_count(history.events.as_slice());
         clear_each(&mut self.lists);
         list_each(
             &mut self.lists,
             catalog.ops.as_slice(),
-            history.plans.as_slice(),
+            core.history().plans.as_slice(),
             number,
             events,
         );

@@ -83,6 +83,7 @@ impl<R: Rack + Drop, B: Resource> Engine<R, B> {
                     files,
                     phase: Phase::Settled,
                     group,
+                    act_count: 0,
                 })
             }
             Err(refused) => Err(refused),

@@ -12,6 +12,7 @@ ghost use Rattle.engine_steps.specs.Engines.{AreAtRest, full_history};
 ghost use Rattle.engine_steps.specs.Opening.{IsOn, IsOpened, IsRefusedOpening, WereSettledFor};
 
 use crate::listing::Lists;
+use crate::pieces::acts_of;
 use crate::{Engine, Phase};
 use commute_table::Catalog;
 use history_files::{Files, Parts, clear_all};
@@ -70,13 +71,17 @@ fn engine_on<R: Rack + Drop, B: Resource>(
     ensures back { IfErr result (λ r. AreCleared B.Resource r.parts.resources.items) }
 {
     match opened_core(alloc, &catalog, history) {
-        Ok((core, group)) => Ok(Engine {
-            core,
-            catalog,
-            files,
-            phase: Phase::Settled,
-            group,
-        }),
+        Ok((core, group)) => {
+            let act_count = acts_of(&core);
+            Ok(Engine {
+                core,
+                catalog,
+                files,
+                phase: Phase::Settled,
+                group,
+                act_count,
+            })
+        }
         Err(_) => Err(closed(files)),
     }
 }

@@ -4,12 +4,12 @@ ghost use Rattle.schedule_model.specs.Histories.{acts};
 ghost use Rattle.machine_model.specs.declared.kept.Work.TheVariants.{Undo};
 ghost use Rattle.machine_model.specs.Progress.{same_work};
 ghost use Rattle.history_files.specs.Laws.{next_effect};
-ghost use Rattle.engine_steps.specs.Engines.{full_history};
-ghost use Rattle.engine_steps.specs.Pieces.{act_of};
+ghost use Rattle.engine_steps.specs.Engines.{acts_of, full_history};
+ghost use Rattle.engine_steps.specs.Pieces.{act_of, acts_by};
 
 use crate::Engine;
 use history_files::effect_of;
-use process_core::{Piece, Work};
+use process_core::{Core, Piece, Work};
 use process_disk::Rack;
 use process_tree::{Entry, Plan};
 use resource_box::Resource;
@@ -17,8 +17,8 @@ use schedule_model::Event;
 use schedule_rules::{planned_key, planned_op};
 use subsystem_store::Effect;
 
-/// How many acts there are among these events.
-pub(crate) fn acts_count(events: &[Event]) -> u32
+// How many acts there are among these events.
+fn acts_count(events: &[Event]) -> u32
     requires { length events.now < 2 ^ 32 }
     ensures { result ≡ length (acts events.now) }
 {
@@ -31,6 +31,24 @@ pub(crate) fn acts_count(events: &[Event]) -> u32
         rest = after;
     }
     count
+}
+
+/// How many acts the history of a core has, by counting them.
+pub(crate) fn acts_of(core: &Core) -> u32
+    ensures { result ≡ acts_of core.now }
+{
+    core.run_holds();
+    acts_count(core.history().events.as_slice())
+}
+
+/// How many acts work comes to.
+pub(crate) fn acts_by(work: Work) -> u32
+    ensures { result ≡ acts_by work }
+{
+    match work {
+        Work::Forward | Work::Undo => 1,
+        Work::End => 0,
+    }
 }
 
 /// Whether work is an undo.
@@ -61,13 +79,10 @@ impl<R: Rack + Drop, B: Resource> Engine<R, B> {
     pub(crate) fn next_effect(&self, entry: &Entry) -> Effect
         ensures { result ≡ next_effect self.now.catalog.ops (full_history self.now.core) entry.now }
     {
-        self.core.run_holds();
-        let history = self.core.history();
-        let number = acts_count(history.events.as_slice());
         effect_of(
             self.catalog.ops.as_slice(),
-            history.plans.as_slice(),
-            number,
+            self.core.history().plans.as_slice(),
+            self.act_count,
             entry,
         )
     }

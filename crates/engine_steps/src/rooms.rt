@@ -7,16 +7,17 @@ ghost use Rattle.history_files.specs.Rooms.{HasRoomAt};
 ghost use Rattle.history_files.specs.Standing.{AreStores, EachFits};
 ghost use Rattle.engine_steps.specs.Engines.{full_history};
 ghost use Rattle.engine_steps.specs.Pieces.{act_of, bars_act};
-ghost use Rattle.engine_steps.specs.Rooms.{AddsRoomFor, KeepsRoomFor, MakesRoomFor, effect_of};
+ghost use Rattle.engine_steps.specs.Rooms.{AddsRoomAt, KeepsRoomAt, MakesRoomAt, effect_at};
 ghost use Rattle.engine_steps.specs.Targets.{targets_of};
 ghost use Rattle.engine_steps.specs.declared.engines.Phase.TheVariants as phase;
 
 use crate::Engine;
-use crate::pieces::{act_of, acts_count};
+use crate::pieces::act_of;
 use commute_table::{Op, Verb};
 use history_files::subsystem_of;
 use process_core::Piece;
 use process_disk::Rack;
+use process_tree::Entry;
 use resource_box::Resource;
 use std::alloc::AllocError;
 
@@ -38,8 +39,7 @@ impl<R: Rack + Drop, B: Resource> Engine<R, B> {
     pub fn acts(&self) -> u32
         ensures { result ≡ length (acts (history_of self.now.core)) }
     {
-        self.core.run_holds();
-        acts_count(self.core.history().events.as_slice())
+        self.act_count
     }
 
     /// Does nothing. It says that there are eight stores, each of its kind and on its file.
@@ -49,55 +49,51 @@ impl<R: Rack + Drop, B: Resource> Engine<R, B> {
         self.files.stores_hold();
     }
 
-    /// The subsystem that a step is on.
-    pub fn subsystem(&self, piece: &Piece) -> u8
-        ensures { result ≡ subsystem_of self.now.catalog.ops (act_of self.now.core.plans piece.now.piece).op }
+    /// The act that a piece makes once it takes effect.
+    pub fn act(&self, piece: &Piece) -> Entry
+        ensures { result ≡ act_of self.now.core.plans piece.now.piece }
     {
-        let entry = act_of(self.core.history().plans.as_slice(), piece);
-        subsystem_of(self.catalog.ops.as_slice(), entry.op)
+        act_of(self.core.history().plans.as_slice(), piece)
     }
 
-    /// The key that a piece acts at.
-    pub fn key(&self, piece: &Piece) -> u32
-        ensures { result ≡ (act_of self.now.core.plans piece.now.piece).key }
+    /// The subsystem that an act is on.
+    pub fn subsystem(&self, act: &Entry) -> u8
+        ensures { result ≡ subsystem_of self.now.catalog.ops act.now.op }
     {
-        act_of(self.core.history().plans.as_slice(), piece).key
+        subsystem_of(self.catalog.ops.as_slice(), act.op)
     }
 
-    /// Whether there are values that bar a step of the operation of a piece.
-    pub fn has_bar(&self, piece: &Piece) -> bool
-        ensures { result ≡ (targets_of self.now.catalog.ops (act_of self.now.core.plans piece.now.piece).op).has_bar }
+    /// Whether there are values that bar a step of the operation of an act.
+    pub fn has_bar(&self, act: &Entry) -> bool
+        ensures { result ≡ (targets_of self.now.catalog.ops act.now.op).has_bar }
     {
-        let entry = act_of(self.core.history().plans.as_slice(), piece);
-        has_bar(self.catalog.ops.as_slice(), entry.op)
+        has_bar(self.catalog.ops.as_slice(), act.op)
     }
 
-    /// Whether the values bar a step. An undo is never barred.
-    pub fn bars(&self, piece: &Piece) -> bool
+    /// Whether the values bar an act. An undo is never barred.
+    pub fn bars(&self, act: &Entry) -> bool
         requires fits { EachFits B.Resource self.now.files.stores }
         requires settled { self.now.phase ≡ phase.Settled }
-        ensures { result ≡ bars_act self.now.catalog.ops (full_history self.now.core) (act_of self.now.core.plans piece.now.piece) }
+        ensures { result ≡ bars_act self.now.catalog.ops (full_history self.now.core) act.now }
     {
         self.files.stores_hold();
-        let entry = act_of(self.core.history().plans.as_slice(), piece);
-        let q = subsystem_of(self.catalog.ops.as_slice(), entry.op);
-        let effect = self.next_effect(&entry);
+        let q = subsystem_of(self.catalog.ops.as_slice(), act.op);
+        let effect = self.next_effect(act);
         self.files.bars(q, &effect)
     }
 
-    /// Makes room in its store for the effect of a step, so that preparing it needs no memory. It makes no call of the rack.
-    pub fn make_room(&mut self, piece: &Piece) -> Result<(), AllocError>
+    /// Makes room in its store for the effect of an act, so that preparing it needs no memory. It makes no call of the rack.
+    pub fn make_room(&mut self, act: &Entry) -> Result<(), AllocError>
         requires fits { EachFits B.Resource self.old.files.stores }
-        ensures room { MakesRoomFor self.old self.new piece.now.piece }
-        ensures ok { OnOk result (HasRoomAt (subsystem_of self.old.catalog.ops (act_of self.old.core.plans piece.now.piece).op)
-            (effect_of self.old piece.now.piece).call.key self.new.files.stores) }
-        ensures adds { OnOk result (AddsRoomFor self.old self.new piece.now.piece) }
-        ensures keeps { OnErr result (KeepsRoomFor self.old self.new piece.now.piece) }
+        ensures room { MakesRoomAt self.old self.new act.now }
+        ensures ok { OnOk result (HasRoomAt (subsystem_of self.old.catalog.ops act.now.op)
+            (effect_at self.old act.now).call.key self.new.files.stores) }
+        ensures adds { OnOk result (AddsRoomAt self.old self.new act.now) }
+        ensures keeps { OnErr result (KeepsRoomAt self.old self.new act.now) }
         ensures fits { EachFits B.Resource self.new.files.stores }
     {
-        let entry = act_of(self.core.history().plans.as_slice(), piece);
-        let q = subsystem_of(self.catalog.ops.as_slice(), entry.op);
-        let effect = self.next_effect(&entry);
+        let q = subsystem_of(self.catalog.ops.as_slice(), act.op);
+        let effect = self.next_effect(act);
         self.files.make_room(q, effect.call.key)
     }
 }

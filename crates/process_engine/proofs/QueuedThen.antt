@@ -2,12 +2,15 @@
 use Rattle.std.proofs.Common.{◌≡◌, ◌⊎◌, inl, inr, ◌∙◌, Bool, true, false, cond, ◌&&◌, ◌||◌, ℕ, List, length, filter, refl, sym, ap, subst}
 use Rattle.std.specs.Prelude.{nat_le}
 use Rattle.std.specs.List.{list_any}
+use Rattle.process_tree.specs.declared.entry.Entry.{Entry}
+use Rattle.schedule_model.specs.Course.{op_of}
 use Rattle.schedule_model.specs.Histories.{is_in}
 use Rattle.machine_model.specs.declared.kept.Work.{Work}
 use Rattle.machine_model.specs.declared.kept.Work.TheVariants.{Forward, Undo, End}
 use Rattle.machine_model.specs.declared.replies.PieceState.TheVariants.{Out}
 use Rattle.machine_model.specs.Groups.{full, is_end_piece, out_queue, queued, refused, refused_unless_end}
 use Rattle.machine_model.specs.Pieces.{state_of}
+use Rattle.machine_model.specs.Moment.{Piece}
 use Rattle.machine_model.specs.Progress.{same_work}
 use Rattle.machine_model.specs.Replies.{Handed}
 use Rattle.process_core.specs.Cores.{IsHandedBy, courses_in, moment_of}
@@ -24,7 +27,7 @@ use Rattle.process_engine.specs.Finishing.{is_barred}
 use Rattle.process_engine.specs.declared.gates.Answer.{Answer}
 use Rattle.process_engine.specs.declared.gates.Answer.TheVariants.{Done, Refused}
 use Rattle.process_engine.specs.Pieces.{numbers_of}
-use Rattle.process_engine.specs.Queueing.{IsRefusal, IsRefusedIn, Leaves, are_full, refusal_of, reply_to, taken_by}
+use Rattle.process_engine.specs.Queueing.{IsRefusal, IsRefusedIn, Leaves, are_full, is_any_at, refusal_of, reply_to, taken_by}
 use Rattle.process_engine.specs.Queues.{AreQueued, pieces_of}
 use Rattle.process_engine.specs.declared.replies.Queue.{Queue}
 use Rattle.process_engine.specs.declared.replies.Queue.TheVariants as answers
@@ -74,8 +77,12 @@ module _ {R B : Type 0} (e : EngineState R B) (group : List Handed) (d : Handed)
 barred_by : {R B : Type 0} (e : EngineState R B) (d : Handed) (w : Work) → d.piece.work ≡ w → same_work w End ≡ false → is_barred e d.piece ≡ bars_act e.catalog.ops (full_history e.core) (act_of e.core.plans d.piece)
 barred_by e d w is no_end = ap (λ b. cond b false (bars_act e.catalog.ops (full_history e.core) (act_of e.core.plans d.piece))) (ap (λ x. same_work x End) is ∙ no_end)
 
-pub barred_forward : {R B : Type 0} (e : EngineState R B) (d : Handed) (b : Bool) → d.piece.work ≡ Forward → b ≡ bars_act e.catalog.ops (full_history e.core) (act_of e.core.plans d.piece) → is_barred e d.piece ≡ b
+barred_forward : {R B : Type 0} (e : EngineState R B) (d : Handed) (b : Bool) → d.piece.work ≡ Forward → b ≡ bars_act e.catalog.ops (full_history e.core) (act_of e.core.plans d.piece) → is_barred e d.piece ≡ b
 barred_forward e d b is same = barred_by e d Forward is refl ∙ sym same
+
+-- an act of it that the values bar
+pub act_forward : {R B : Type 0} (e : EngineState R B) (d : Handed) (a : Entry) (b : Bool) → d.piece.work ≡ Forward → a ≡ act_of e.core.plans d.piece → b ≡ bars_act e.catalog.ops (full_history e.core) a → is_barred e d.piece ≡ b
+act_forward e d a b is act same = barred_forward e d b is (same ∙ ap (bars_act e.catalog.ops (full_history e.core)) act)
 
 pub barred_undo : {R B : Type 0} (e : EngineState R B) (d : Handed) → d.piece.work ≡ Undo → is_barred e d.piece ≡ false
 barred_undo e d is =
@@ -93,10 +100,19 @@ pub full_for : {R B : Type 0} (e : EngineState R B) (seen group : List Handed) (
     → b ≡ are_full e (pieces_of seen) d.piece → b ≡ t → are_full e (pieces_of group) d.piece ≡ t
 full_for e seen group d b t same is told = subst (λ ps. are_full e (pieces_of ps) d.piece ≡ t) same (sym is ∙ told)
 
+full_by_work : {R B : Type 0} (e : EngineState R B) (ps : List Piece) (d : Handed) (w : Work) → d.piece.work ≡ w → same_work w Forward ≡ false → are_full e ps d.piece ≡ false
+full_by_work e ps d w is back =
+    ap (λ f. (f && (targets_of e.catalog.ops (op_of (courses_in e.core) d.piece.process d.piece.step)).has_bar) && is_any_at e ps d.piece) (ap (λ x. same_work x Forward) is ∙ back)
+
 -- an undo isn't barred, and neither is an end
 pub free_back : {R B : Type 0} (e : EngineState R B) (d : Handed) → (d.piece.work ≡ Undo) ⊎ (d.piece.work ≡ End) → is_barred e d.piece ≡ false
 free_back e d (inl undo) = barred_undo e d undo
 free_back e d (inr end) = barred_end e d end
+
+-- and no group is full for it
+pub none_full : {R B : Type 0} (e : EngineState R B) (ps : List Piece) (d : Handed) → (d.piece.work ≡ Undo) ⊎ (d.piece.work ≡ End) → are_full e ps d.piece ≡ false
+none_full e ps d (inl undo) = full_by_work e ps d Undo undo refl
+none_full e ps d (inr end) = full_by_work e ps d End end refl
 
 pub work_by : (w v : Work) → v ≡ w → (v ≡ Undo) ⊎ (v ≡ End) → (w ≡ Undo) ⊎ (w ≡ End)
 work_by w v same (inl undo) = inl (sym same ∙ undo)

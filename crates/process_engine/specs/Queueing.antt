@@ -1,7 +1,7 @@
 -- How a piece is queued.
-use Rattle.std.specs.Prelude.{◌≡◌, ◌⊎◌, ⊤, ℕ, Bool, true, false, ◌&&◌, List, [], ◌∷◌, ◌++◌, filter, length, nat_le}
+use Rattle.std.specs.Prelude.{◌≡◌, ◌⊎◌, ⊤, ℕ, Bool, true, false, ◌&&◌, List, [], ◌∷◌, ◌++◌, filter, length, nat_eq, nat_le}
 use Rattle.std.specs.List.{list_any}
-use Rattle.schedule_model.specs.Histories.{is_in}
+use Rattle.process_tree.specs.declared.entry.Entry.{Entry}
 use Rattle.process_tree.specs.declared.play.Outcome.TheVariants.{Refused as Fails}
 use Rattle.machine_model.specs.declared.kept.Kept.TheVariants.{Refuse}
 use Rattle.machine_model.specs.declared.kept.Work.TheVariants.{Forward}
@@ -17,14 +17,16 @@ use Rattle.machine_model.specs.Pieces.{runs}
 use Rattle.machine_model.specs.Replies.{Handed, refusal_reply}
 use Rattle.process_core.specs.Answers.{after_call}
 use Rattle.process_core.specs.Cores.{CoreState, courses_in, moment_of, relation}
+use Rattle.history_files.specs.Effects.{subsystem_of}
 use Rattle.engine_steps.specs.Engines.{EngineState, with_core}
+use Rattle.engine_steps.specs.Pieces.{act_of}
 use Rattle.engine_steps.specs.Rooms.{MakesRoomFor}
 use Rattle.engine_steps.specs.Targets.{targets_of}
 use Rattle.process_engine.specs.Finishing.{is_barred}
 use Rattle.process_engine.specs.declared.gates.Answer.{Answer}
 use Rattle.process_engine.specs.declared.gates.Answer.TheVariants.{Done, Refused as IsRefused}
 use Rattle.process_engine.specs.Pieces.{numbers_of}
-use Rattle.process_engine.specs.Queues.{AreQueued, pieces_of}
+use Rattle.process_engine.specs.Queues.{pieces_of}
 use Rattle.process_engine.specs.declared.replies.Queue.{Queue}
 use Rattle.process_engine.specs.declared.replies.Queue.TheVariants.{Queued, Full, Retry, Failed, Over, Dropped, Exhausted}
 use Rattle.process_engine.specs.declared.replies.Queue.TheVariants.{NoMemory, Closed}
@@ -96,6 +98,12 @@ IsRefusal Exhausted = ⊤
 IsRefusal (NoMemory p) = ⊥
 IsRefusal (Closed n) = ⊥
 
+-- a piece acts at the key of an act
+abbrev pub is_at : {R B : Type 0} → EngineState R B → Entry → Piece → Bool
+is_at e a p =
+    nat_eq (subsystem_of e.catalog.ops a.op) (subsystem_of e.catalog.ops (act_of e.core.plans p).op)
+    && nat_eq a.key (act_of e.core.plans p).key
+
 -- of pieces, one that runs acts at the key of this one
 abbrev pub is_any_at : {R B : Type 0} → EngineState R B → List Piece → Piece → Bool
 is_any_at e ps p =
@@ -104,9 +112,3 @@ is_any_at e ps p =
 -- pieces are full for one that values can bar, where such a one runs
 abbrev pub are_full : {R B : Type 0} → EngineState R B → List Piece → Piece → Bool
 are_full e ps p = can_be_barred (targets_of e.catalog.ops) (courses_in e.core) p && is_any_at e ps p
-
--- a piece isn't queued, and the group isn't full for it
-pub record HasPlace {R B : Type 0} (e : EngineState R B) (group : List Handed) (p : Piece) : Type 0 where
-  pub queued : AreQueued e group
-  pub new : is_in p.number (numbers_of (pieces_of group)) ≡ false
-  pub free : are_full e (pieces_of group) p ≡ false

@@ -96,7 +96,10 @@ fn make_room<R: Rack + Drop, B: Resource>(
     ensures fits { EachFits B.Resource engine.new.files.stores }
 {
     match piece.work() {
-        Work::Forward => engine.make_room(piece),
+        Work::Forward => {
+            let act = engine.act(piece);
+            engine.make_room(&act)
+        }
         Work::Undo | Work::End => Ok(()),
     }
 }
@@ -158,7 +161,8 @@ fn finish_done<R: Rack + Drop, B: Resource>(engine: &mut Engine<R, B>, piece: Pi
     ensures fits { EachFits B.Resource engine.new.files.stores }
     ensures rack { LeavesImages R.Rack engine.old.files.rack engine.new.files.rack (result ≡ Finish.DiskFault) }
 {
-    if engine.bars(&piece) {
+    let act = engine.act(&piece);
+    if engine.bars(&act) {
         return finish_refused(engine, piece);
     }
     finish_effect(engine, piece)

@@ -8,11 +8,11 @@ ghost use Rattle.machine_model.specs.Groups.{can_be_barred, is_end_piece, refuse
 ghost use Rattle.machine_model.specs.Pieces.{runs, state_of};
 ghost use Rattle.process_core.specs.Cores.{IsHandedBy, courses_in, moment_of};
 ghost use Rattle.history_files.specs.Standing.{EachFits};
-ghost use Rattle.engine_steps.specs.Pieces.{IsStepOut};
+ghost use Rattle.engine_steps.specs.Pieces.{IsStepOut, act_of};
 ghost use Rattle.engine_steps.specs.Targets.{targets_of};
 ghost use Rattle.engine_steps.specs.declared.engines.Phase.TheVariants as phase;
 ghost use Rattle.process_engine.specs.Pieces.{numbers_of};
-ghost use Rattle.process_engine.specs.Queueing.{HasPlace, IsRefusal, IsRefusedIn, Queues, RepliesAs, are_full, is_any_at, refusal_of};
+ghost use Rattle.process_engine.specs.Queueing.{IsRefusal, IsRefusedIn, Queues, RepliesAs, are_full, is_any_at, is_at, refusal_of};
 ghost use Rattle.process_engine.specs.Most.{most_queued};
 ghost use Rattle.process_engine.specs.Queues.{AreQueued, IsUnfinished, pieces_of};
 
@@ -21,6 +21,7 @@ use crate::{Answer, Queued};
 use engine_steps::{Closed, Engine};
 use process_core::{Piece, PieceState, Refusal, Work};
 use process_disk::Rack;
+use process_tree::Entry;
 use resource_box::Resource;
 
 // What a refusal answers.
@@ -48,14 +49,25 @@ fn has_number(pieces: &[Piece], number: u32) -> bool
     false
 }
 
-// Whether two pieces act at one key: no end does.
-fn share_key<R: Rack + Drop, B: Resource>(engine: &Engine<R, B>, one: &Piece, other: &Piece) -> bool
+// Whether a piece acts at the key of an act.
+fn is_at<R: Rack + Drop, B: Resource>(engine: &Engine<R, B>, act: &Entry, piece: &Piece) -> bool
+    ensures { result ≡ is_at engine.now act.now piece.now.piece }
+{
+    let own = engine.act(piece);
+    engine.subsystem(act) == engine.subsystem(&own) && act.key == own.key
+}
+
+// Whether a piece, which makes this act, and another act at one key: no end does.
+fn share_key<R: Rack + Drop, B: Resource>(
+    engine: &Engine<R, B>,
+    one: &Piece,
+    act: &Entry,
+    other: &Piece,
+) -> bool
+    requires act { act.now ≡ act_of engine.now.core.plans one.now.piece }
     ensures { result ≡ share_key (targets_of engine.now.catalog.ops) (courses_in engine.now.core) one.now.piece other.now.piece }
 {
-    !is_end(one)
-        && !is_end(other)
-        && engine.subsystem(one) == engine.subsystem(other)
-        && engine.key(one) == engine.key(other)
+    !is_end(one) && !is_end(other) && is_at(engine, act, other)
 }
 
 // Whether a piece is the end of a process.
@@ -79,18 +91,20 @@ fn is_out<R: Rack + Drop, B: Resource>(engine: &Engine<R, B>, piece: &Piece) -> 
     }
 }
 
-// Whether one of the pieces runs and acts at the key of this piece.
+// Whether one of the pieces runs and acts at the key of this piece, which makes this act.
 fn is_any_at<R: Rack + Drop, B: Resource>(
     engine: &Engine<R, B>,
     pieces: &[Piece],
     piece: &Piece,
+    act: &Entry,
 ) -> bool
     requires unfinished { Each (IsUnfinished engine.now.core) (pieces_of pieces.now) }
+    requires act { act.now ≡ act_of engine.now.core.plans piece.now.piece }
     ensures { result ≡ is_any_at engine.now (pieces_of pieces.now) piece.now.piece }
 {
     let mut rest = pieces;
     while let [other, after @ ..] = rest {
-        if share_key(engine, piece, other) && is_out(engine, other) {
+        if share_key(engine, piece, act, other) && is_out(engine, other) {
             return true;
         }
         rest = after;
@@ -98,26 +112,33 @@ fn is_any_at<R: Rack + Drop, B: Resource>(
     false
 }
 
-// Whether values can bar a piece: a forward step of such an operation.
-fn can_be_barred<R: Rack + Drop, B: Resource>(engine: &Engine<R, B>, piece: &Piece) -> bool
+// Whether values can bar a piece, which makes this act: a forward step of such an operation.
+fn can_be_barred<R: Rack + Drop, B: Resource>(
+    engine: &Engine<R, B>,
+    piece: &Piece,
+    act: &Entry,
+) -> bool
+    requires act { act.now ≡ act_of engine.now.core.plans piece.now.piece }
     ensures { result ≡ can_be_barred (targets_of engine.now.catalog.ops) (courses_in engine.now.core) piece.now.piece }
 {
     match piece.work() {
-        Work::Forward => engine.has_bar(piece),
+        Work::Forward => engine.has_bar(act),
         Work::Undo | Work::End => false,
     }
 }
 
-// Whether there is no place for a piece among these.
+// Whether there is no place among these for a piece, which makes this act.
 fn is_full<R: Rack + Drop, B: Resource>(
     engine: &Engine<R, B>,
     pieces: &[Piece],
     piece: &Piece,
+    act: &Entry,
 ) -> bool
     requires unfinished { Each (IsUnfinished engine.now.core) (pieces_of pieces.now) }
+    requires act { act.now ≡ act_of engine.now.core.plans piece.now.piece }
     ensures { result ≡ are_full engine.now (pieces_of pieces.now) piece.now.piece }
 {
-    can_be_barred(engine, piece) && is_any_at(engine, pieces, piece)
+    can_be_barred(engine, piece, act) && is_any_at(engine, pieces, piece, act)
 }
 
 // A piece comes behind those that are queued.
@@ -139,7 +160,8 @@ fn refuse<R: Rack + Drop, B: Resource>(engine: &mut Engine<R, B>, piece: Piece) 
     refused_as(engine.refuse_piece(piece))
 }
 
-// A step that finds a place in the group: it is refused where the values bar it, and else room is made for it.
+// A step: where there is a place for it in the group, it is refused if the values bar it, and else room is made for it. Its act is
+// worked out once.
 fn queue_step<R: Rack + Drop, B: Resource>(
     engine: &mut Engine<R, B>,
     queued: &mut Queued,
@@ -149,17 +171,22 @@ fn queue_step<R: Rack + Drop, B: Resource>(
     requires settled { engine.old.phase ≡ phase.Settled }
     requires out { IsStepOut engine.old.core piece.piece }
     requires forward { piece.piece.work ≡ Forward }
-    requires place { HasPlace engine.old queued.old piece.piece }
+    requires queued { AreQueued engine.old queued.old }
+    requires new { is_in piece.piece.number (numbers_of (pieces_of queued.old)) ≡ false }
     ensures queues { Queues engine.old engine.new queued.old queued.new piece Answer.Done result }
     ensures queued { AreQueued engine.new queued.new }
     ensures fits { EachFits B.Resource engine.new.files.stores }
     ensures rack { engine.new.files.rack ≡ engine.old.files.rack }
 {
     engine.invariant_holds();
-    if engine.bars(&piece) {
+    let act = engine.act(&piece);
+    if is_full(engine, &queued.pieces, &piece, &act) {
+        return Queue::Full(piece);
+    }
+    if engine.bars(&act) {
         return refuse(engine, piece);
     }
-    match engine.make_room(&piece) {
+    match engine.make_room(&act) {
         Ok(()) => {
             put_in(queued, piece);
             Queue::Queued
@@ -186,9 +213,6 @@ fn queue_done<R: Rack + Drop, B: Resource>(
     ensures rack { engine.new.files.rack ≡ engine.old.files.rack }
 {
     engine.invariant_holds();
-    if is_full(engine, &queued.pieces, &piece) {
-        return Queue::Full(piece);
-    }
     match piece.work() {
         Work::Forward => queue_step(engine, queued, piece),
         Work::Undo | Work::End => {

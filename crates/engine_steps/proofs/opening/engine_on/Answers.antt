@@ -7,6 +7,7 @@ invariant_of-result g c =
     let is = c.in-Ok.ensures in (
       opened_under c.args.catalog c.args.history c.in-Ok.core is c.requires.history,
       λ settled. opened_rest c.args.catalog c.args.history c.in-Ok.core is c.args.files (g.R.Rack.disk c.args.files.rack) c.requires.rest,
+      c.acts_of-act_count.ensures,
     )
 
 pub returns-in-Ok-clause-opened : goal.returns-in-Ok-clause-opened

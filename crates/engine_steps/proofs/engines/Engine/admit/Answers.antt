@@ -1,3 +1,4 @@
+use Rattle.engine_steps.proofs.CountedActs.{acts_same}
 use Rattle.engine_steps.proofs.SameHistory.{admit_same}
 use Rattle.engine_steps.proofs.StillUnder.{still_rest, still_under}
 use Rattle.machine_model.specs.Calls.{admit}
@@ -10,4 +11,5 @@ invariant_of-self g c =
     let rest = still_rest c.self.inside.catalog core c.admit.new.self (admit c.args.i) c.admit.ensures.core same c.self.inside.files (g.R.Rack.disk c.self.inside.files.rack) in (
       still_under c.self.inside.catalog core c.admit.new.self (admit c.args.i) c.admit.ensures.core same c.self.invariant.0,
       λ settled. rest (c.self.invariant.1 settled),
+      acts_same core c.admit.new.self (admit c.args.i) c.admit.ensures.core same c.self.inside.act_count c.self.invariant.2,
     )

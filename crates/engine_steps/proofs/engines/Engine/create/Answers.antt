@@ -1,5 +1,6 @@
 use Rattle.std.proofs.Common.{◌∙◌, refl, sym}
 use Rattle.process_journal.specs.Bodies.{no_history}
+use Rattle.engine_steps.proofs.CountedActs.{new_acts}
 use Rattle.engine_steps.proofs.NewEngine.{new_rests, new_under, rest_unused}
 use Rattle.engine_steps.proofs.engines.Engine.create.Goals as goal
 
@@ -10,6 +11,7 @@ invariant_of-result g c =
       new_under c.args.catalog c.in-Ok.core c.in-Ok.ensures c.requires.catalog,
       λ settled. new_rests c.args.catalog c.in-Ok.core c.in-Ok.ensures files (g.R.Rack.disk files.rack)
           (rest_unused c.calls_make_good_books.ensures.create c.args.catalog files (g.R.Rack.disk files.rack) made.made.count made.made.unused (λ told. made.stand (sym made.rack.tells ∙ told))),
+      new_acts c.args.catalog c.in-Ok.core c.in-Ok.ensures,
     )
 
 pub returns-in-Ok-create-clause-new : goal.returns-in-Ok-create-clause-new

@@ -30,6 +30,7 @@ invariant_of-self g c =
       c.self.invariant.0,
       λ settled. rest_paid catalog h old now (g.R.Rack.disk old.rack) (g.R.Rack.disk now.rack) rest c.in-Ok.ensures.ok did.journal (did.good rest.good)
           (λ told. let before = sym did.rack.tells ∙ told in c.in-Ok.ensures.acknowledged before catalog h (rest.stand before)),
+      c.self.invariant.2,
     )
 
 pub returns-in-Ok-clause-owes : goal.returns-in-Ok-clause-owes

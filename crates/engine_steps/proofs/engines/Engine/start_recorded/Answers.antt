@@ -10,6 +10,7 @@ use Rattle.process_disk.specs.Images.{EachImage}
 use Rattle.process_journal.specs.Journals.{IsMadeBy}
 use Rattle.engine_steps.specs.Beginning.{history_with}
 use Rattle.engine_steps.specs.Engines.{full_history}
+use Rattle.engine_steps.proofs.CountedActs.{acts_started}
 use Rattle.engine_steps.proofs.StartRecord.{come_with, goes_on_after, made_after, rest_new, room_left, under_after, under_new}
 use Rattle.engine_steps.proofs.engines.Engine.start_recorded.Goals as goal
 
@@ -50,6 +51,7 @@ invariant_of-self g c =
           (subst (λ r. IsMadeBy catalog r (full_history core) (history_with core p)) (sym entry) (made_after catalog core c.run_holds.ensures c.self.invariant.0 law p own room.good room.free))
           (under_after catalog core c.run_holds.ensures c.self.invariant.0 law p own room.good room.free)
           (come_with catalog core c.run_holds.ensures c.self.invariant.0 law p own room.good room.free adds old disk rest)),
+      acts_started core c.run_holds.ensures p room.free c.start_in.new.self after c.self.inside.act_count c.self.invariant.2,
     )
 
 pub returns-in-Ok-clause-any_moment : goal.returns-in-Ok-clause-any_moment
