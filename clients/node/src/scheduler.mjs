@@ -339,8 +339,8 @@ export class Scheduler {
 
   /** Behind a start that finds no room the ones that come next find none either, or else would pass it. */
   #started(process, answer) {
-    if (answer.startsWith("started ")) {
-      process.number = Number(answer.split(" ")[1]);
+    if (answer.startsWith("started ") || answer.startsWith("already started ")) {
+      process.number = Number(answer.replace("already ", "").split(" ")[1]);
       this.active.set(process.number, process);
       this.#waiting.splice(this.#waiting.indexOf(process), 1);
       this.mayHandOut = true;

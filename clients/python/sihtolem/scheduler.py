@@ -421,8 +421,8 @@ class Scheduler:
 
     def _started(self, process: Process, answer: str) -> None:
         """Behind a start that finds no room the ones that come next find none either, or else would pass it."""
-        if answer.startswith("started "):
-            process.number = int(answer.split(" ")[1])
+        if answer.startswith(("started ", "already started ")):
+            process.number = int(answer.removeprefix("already ").split(" ")[1])
             self._active[process.number] = process
             self._waiting.remove(process)
             self._may_hand_out = True

@@ -3,3 +3,4 @@ pub mod MoreStarts
 pub mod SpelledStarts
 pub mod AnsweredLines
 pub mod ActiveOnes
+pub mod ActiveNames

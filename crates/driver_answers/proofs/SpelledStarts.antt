@@ -1,5 +1,6 @@
 -- Starts of processes that lines spell.
-use Rattle.std.proofs.Common.{◌≡◌, ◌≢◌, ◌∙◌, ◌⊎◌, ℕ, List, [], ◌∷◌, length, Option, Some, None, inl, inr, refl, ap, subst}
+use Rattle.std.proofs.Common.{◌≡◌, ◌≢◌, ◌∙◌, ◌⊎◌, ℕ, List, [], ◌∷◌, length, Option, Some, None, Vec, inl, inr, refl, ap, subst}
+use Rattle.std.specs.declared.alloc.Global.{Global}
 use Rattle.process_tree.specs.Order.{Each}
 use Rattle.process_tree.proofs.Every.{Each-weaker}
 use Rattle.process_tree.specs.declared.plan.Plan.{Plan}
@@ -15,13 +16,13 @@ use Rattle.engine_steps.specs.Beginning.{IsPlanFor}
 use Rattle.engine_steps.specs.Engines.{EngineState}
 use Rattle.command_input.specs.Scenarios.{AreGoodPlans}
 use Rattle.scenario_run.proofs.ScenarioPlans.{plans_start}
-use Rattle.session_play.specs.Answering.{IsAnswered, IsCut}
+use Rattle.session_play.specs.Answering.{IsCut}
 use Rattle.session_play.specs.Pieces.{session_of}
 use Rattle.session_play.specs.Playing.{play_start, start_unless}
 use Rattle.session_play.specs.declared.cut.Cut.{Cut}
 use Rattle.session_play.specs.declared.cut.Cut.TheVariants.{DiskFault, NoMemory}
 use Rattle.driver_requests.specs.Answers.{bad_line_words}
-use Rattle.driver_answers.specs.Serving.{IsSpelledAnswered}
+use Rattle.driver_answers.specs.Serving.{IsNamedAnswered, IsSpelledAnswered}
 
 -- The plans of a good text may start.
 pub good_start : (c : Catalog) (text : List ℕ) (plans : List Plan) → AreGoodPlans c.ops text plans → Each (IsPlanFor c) plans
@@ -58,9 +59,9 @@ module _ (old new : CoreState) (plan : Plan) where
 
 module _ {R B : Type 0} (c : Catalog) (n : ℕ) (spelled : List ℕ) (plans : List Plan) (good : AreGoodPlans c.ops spelled plans) (old new : EngineState R B) where
   -- What was answered to the one plan of a list, or to a list of none or more, was answered to the text that spells them.
-  pub spelled_started : (text : List ℕ) → ((p : Plan) × (plans ≡ p ∷ []) × ((ps qs : List Handed) → IsAnswered (play_start (session_of old.core ps qs) p.name (Some p)) new.core ps qs text))
-      ⊎ ((length plans ≢ 1) × (new ≡ old) × (text ≡ line_of (bad_line_words n))) → (ps qs : List Handed)
-      → IsSpelledAnswered c (record { core = old.core; hand = record { unfinished = ps; queued = qs } }) n spelled (record { core = new.core; hand = record { unfinished = ps; queued = qs } }) text
+  pub spelled_started : (text : Vec ℕ Global) → ((p : Plan) × (plans ≡ p ∷ []) × IsNamedAnswered old.core p new.core text) ⊎ ((length plans ≢ 1) × (new ≡ old) × (text.items ≡ line_of (bad_line_words n)))
+      → (ps qs : List Handed)
+      → IsSpelledAnswered c (record { core = old.core; hand = record { unfinished = ps; queued = qs } }) n spelled (record { core = new.core; hand = record { unfinished = ps; queued = qs } }) text.items
   spelled_started text (inl (p, only, answered)) ps qs = inl (p, subst (AreGoodPlans c.ops spelled) only good, answered ps qs)
   spelled_started text (inr (other, same, told)) ps qs = inr (inr (plans, good, other, ap (λ (e : EngineState R B). record { core = e.core; hand = record { unfinished = ps; queued = qs } }) same, told))
 

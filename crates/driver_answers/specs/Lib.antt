@@ -1,5 +1,6 @@
 pub mod Happenings
 pub mod Starts
 pub mod Waits
+pub mod Already
 pub mod Serving
 mod Examples

@@ -1,7 +1,8 @@
 -- What a driver reads for each of its lines, and what the line makes of the machine.
 use Rattle.std.specs.Prelude.{◌≡◌, ◌≢◌, ◌⊎◌, ℕ, zero, suc, List, [], ◌∷◌, Bool, true, false, drop, flat_map, length, codes, Option}
-use Rattle.std.specs.Prelude.{Some, None}
+use Rattle.std.specs.Prelude.{Some, None, Vec, ⊤}
 use Rattle.std.specs.List.{slice_get}
+use Rattle.std.specs.declared.alloc.Global.{Global}
 use Rattle.process_tree.specs.declared.plan.Plan.{Plan}
 use Rattle.process_text.specs.Canonical.{line_of}
 use Rattle.schedule_model.specs.declared.history.History.{History}
@@ -30,6 +31,7 @@ use Rattle.driver_requests.specs.declared.request.Request.TheVariants.{Session, 
 use Rattle.driver_requests.specs.Answers.{bad_line_words, called_piece, framed, happening_words, no_step_words, numbered_lines}
 use Rattle.driver_requests.specs.Answers.{piece_call, with_words}
 use Rattle.driver_requests.specs.Requests.{request_of}
+use Rattle.driver_answers.specs.Already.{active_named, already_started, already_words}
 use Rattle.driver_answers.specs.Happenings.{happening, step_named}
 use Rattle.driver_answers.specs.Starts.{started}
 use Rattle.driver_answers.specs.Waits.{waits}
@@ -69,10 +71,26 @@ abbrev pub served : DriverState → DriverState → Line → List ℕ → List �
 served s t l printed =
     framed (has_many_lines l) (with_call t.core.plans (drop (length s.hand.unfinished) t.hand.unfinished) printed)
 
+-- what is told of a start, if this active process has its name
+abbrev pub IsAlreadyTold : Option ℕ → Option (Vec ℕ Global) → Type 0
+IsAlreadyTold None None = ⊤
+IsAlreadyTold None (Some text) = ⊥
+IsAlreadyTold (Some i) None = ⊥
+IsAlreadyTold (Some i) (Some text) = text.items ≡ line_of (already_words i)
+
+-- a start is answered so, unless this active process has its name: that is told, and nothing starts
+abbrev pub IsAnsweredUnless : Option ℕ → DriverState → DriverState → List ℕ → Type 0 → Type 0
+IsAnsweredUnless None s t text answered = answered
+IsAnsweredUnless (Some i) s t text answered = (t ≡ s) × (text ≡ line_of (already_words i))
+
 -- a line of a session is answered so
-abbrev pub IsSessionAnswered : Catalog → List Plan → DriverState → Line → DriverState → List ℕ → Type 0
-IsSessionAnswered c plans s l t text =
+abbrev pub IsPlayed : Catalog → List Plan → DriverState → Line → DriverState → List ℕ → Type 0
+IsPlayed c plans s l t text =
     (printed : List ℕ) × AnswersLine c plans (as_session s) l t.core t.hand.unfinished t.hand.queued printed × (text ≡ served s t l printed)
+
+-- it is, unless it asks for a start under a name that an active process has
+abbrev pub IsSessionAnswered : Catalog → List Plan → DriverState → Line → DriverState → List ℕ → Type 0
+IsSessionAnswered c plans s l t text = IsAnsweredUnless (already_started s.core l) s t text (IsPlayed c plans s l t text)
 
 -- pieces with what they call, a line each
 abbrev pub listed : List Plan → List Handed → List ℕ
@@ -97,17 +115,25 @@ plan_at plans (suc i) = slice_get plans i
 abbrev pub happened : History → ℕ → List ℕ → Words
 happened h i name = happened_of h i name (plan_at h.plans i)
 
+-- A process of this plan started, or was refused, whatever pieces are at hand; unless an active one has its name: that is told, and
+-- nothing starts.
+abbrev pub IsNamedAnswered : CoreState → Plan → CoreState → Vec ℕ Global → Type 0
+IsNamedAnswered old p new text = (ps qs : List Handed) → IsAnsweredUnless (active_named old p.name)
+    (record { core = old; hand = record { unfinished = ps; queued = qs } })
+    (record { core = new; hand = record { unfinished = ps; queued = qs } })
+    text.items (IsAnswered (play_start (session_of old ps qs) p.name (Some p)) new ps qs text.items)
+
 -- what is told of a process that is not started: what is wrong with its text first, or its verdict
 abbrev pub no_plans_text : NoPlans → List ℕ
 no_plans_text (Refused r) = refusal_line r
 no_plans_text (IllFormed line) = line.items
 
--- `start process NAME .. end`: the process that the text spells starts, or is refused as that of a scenario is; a text of none, or
--- of more than one, is no line
+-- `start process NAME .. end`: the process that the text spells starts, unless an active one has its name, or is refused as that of
+-- a scenario is; a text of none, or of more than one, is no line
 abbrev pub IsSpelledAnswered : Catalog → DriverState → ℕ → List ℕ → DriverState → List ℕ → Type 0
 IsSpelledAnswered c s n spelled t text =
-    ((p : Plan) × AreGoodPlans c.ops spelled (p ∷ [])
-    × IsAnswered (play_start (as_session s) p.name (Some p)) t.core t.hand.unfinished t.hand.queued text)
+    ((p : Plan) × AreGoodPlans c.ops spelled (p ∷ []) × IsAnsweredUnless (active_named s.core p.name) s t text
+    (IsAnswered (play_start (as_session s) p.name (Some p)) t.core t.hand.unfinished t.hand.queued text))
     ⊎ ((none : NoPlans) × AreNoGoodPlans c.ops spelled none × (none ≢ Refused NoMemory) × (t ≡ s) × (text ≡ no_plans_text none))
     ⊎ ((plans : List Plan) × AreGoodPlans c.ops spelled plans × (length plans ≢ 1) × (t ≡ s) × (text ≡ line_of (bad_line_words n)))
 

@@ -1,5 +1,5 @@
 // The lines of a driver.
-ghost use Rattle.std.specs.Prelude.{◌≡◌, ◌≢◌, List, Some, Err, drop, IfOk, IfErr, OnOk};
+ghost use Rattle.std.specs.Prelude.{◌≡◌, ◌≢◌, ◌⊎◌, List, Some, Err, drop, IfOk, IfErr, OnOk};
 ghost use Rattle.process_tree.specs.Order.{Each};
 ghost use Rattle.process_tree.specs.declared.plan.Plan.{Plan as Plan'};
 ghost use Rattle.engine_steps.specs.Beginning.{IsPlanFor};
@@ -9,10 +9,11 @@ ghost use Rattle.history_files.specs.Standing.{EachFits};
 ghost use Rattle.session_play.specs.Answering.{CutsLine};
 ghost use Rattle.session_play.specs.AtHand.{session_with, AreAtHand};
 ghost use Rattle.session_play.specs.Playing.{plan_for};
-ghost use Rattle.session_play.specs.declared.cut.Cut.TheVariants.{DiskFault};
+ghost use Rattle.session_play.specs.declared.cut.Cut.TheVariants.{DiskFault, NoMemory};
 ghost use Rattle.driver_requests.specs.Requests.{request_of};
-ghost use Rattle.driver_answers.specs.Serving.{has_many_lines, state_of, AsksToStart, IsLineAnswered, IsLineCut, IsSessionAnswered};
+ghost use Rattle.driver_answers.specs.Serving.{has_many_lines, state_of, AsksToStart, IsLineAnswered, IsLineCut, IsPlayed, IsSessionAnswered};
 
+use crate::already::told_of_line;
 use crate::happenings::happened_text;
 use crate::listing::{add_handed, pieces_text};
 use crate::spelled::{bad_line, start_spelled};
@@ -45,8 +46,8 @@ fn behind<T>(all: &[T], n: usize) -> &[T]
     rest
 }
 
-// Answers a line of a session.
-fn answer_session<R: Rack + Drop, B: Resource>(
+// Answers a line of a session that asks for no start under a name that an active process has.
+fn play_session<R: Rack + Drop, B: Resource>(
     alloc: Global,
     engine: &mut Engine<R, B>,
     plans: &[Plan],
@@ -57,7 +58,7 @@ fn answer_session<R: Rack + Drop, B: Resource>(
     requires plans { Each (IsPlanFor engine.old.catalog) plans.now }
     requires at_hand { AreAtHand engine.old hand.old }
     ensures answered { IfOk result
-        (λ text. IsSessionAnswered engine.old.catalog plans.now
+        (λ text. IsPlayed engine.old.catalog plans.now
         (state_of engine.old.core hand.old) line.now (state_of engine.new.core hand.new) text.items) }
     ensures at_hand { OnOk result (AreAtHand engine.new hand.new) }
     ensures cut { IfErr result
@@ -78,6 +79,37 @@ fn answer_session<R: Rack + Drop, B: Resource>(
         &mut text,
     )?;
     Ok(framed(alloc, has_many_lines(line), text)?)
+}
+
+// Answers a line of a session.
+fn answer_session<R: Rack + Drop, B: Resource>(
+    alloc: Global,
+    engine: &mut Engine<R, B>,
+    plans: &[Plan],
+    hand: &mut AtHand,
+    line: &Line,
+) -> Result<Vec<u8>, Cut>
+    requires ready { IsReady B.Resource engine.old }
+    requires plans { Each (IsPlanFor engine.old.catalog) plans.now }
+    requires at_hand { AreAtHand engine.old hand.old }
+    ensures answered { IfOk result
+        (λ text. IsSessionAnswered engine.old.catalog plans.now
+        (state_of engine.old.core hand.old) line.now (state_of engine.new.core hand.new) text.items) }
+    ensures at_hand { OnOk result (AreAtHand engine.new hand.new) }
+    ensures cut { IfErr result
+        (λ cut. ((cut ≡ NoMemory) × (engine.new.core ≡ engine.old.core)) ⊎ CutsLine engine.old.catalog plans.now
+        (session_with engine.old.core hand.old) line.now cut engine.old.core engine.new.core) }
+    ensures fault { IfErr result (λ cut. cut ≡ DiskFault → IsClosedByFault R.Rack engine.old engine.new) }
+    ensures goes { (may_start : List Plan') → ((p : Plan') → plan_for plans.now line.now ≡ Some p → IsOneOf may_start p)
+        → GoesOn R.Rack may_start engine.old engine.new }
+    ensures fits { EachFits B.Resource engine.new.files.stores }
+    ensures ready { result ≢ Err DiskFault → IsReady B.Resource engine.new }
+{
+    engine.invariant_holds();
+    match told_of_line(alloc, engine, line)? {
+        Some(text) => Ok(text),
+        None => play_session(alloc, engine, plans, hand, line),
+    }
 }
 
 /// Answers a line of a driver that has this number, with these plans of the scenario.

@@ -15,8 +15,9 @@ ghost use Rattle.session_play.specs.Pieces.{session_of};
 ghost use Rattle.session_play.specs.Playing.{play_start};
 ghost use Rattle.session_play.specs.declared.cut.Cut.TheVariants.{DiskFault, NoMemory};
 ghost use Rattle.driver_requests.specs.Answers.{bad_line_words};
-ghost use Rattle.driver_answers.specs.Serving.{no_plans_text, IsSpelledAnswered};
+ghost use Rattle.driver_answers.specs.Serving.{no_plans_text, IsNamedAnswered, IsSpelledAnswered};
 
+use crate::already::told_of_name;
 use command_input::{NoPlans, good_plans, refusal_line};
 use command_refusals::Refusal;
 use driver_requests::put_bad_line;
@@ -85,6 +86,31 @@ fn start_named<R: Rack + Drop, B: Resource>(
     play_plan(alloc, engine, &name, plan)
 }
 
+// A process of this plan starts under its own name, unless an active one has that.
+fn start_unless_active<R: Rack + Drop, B: Resource>(
+    alloc: Global,
+    engine: &mut Engine<R, B>,
+    plan: Plan,
+) -> Result<Vec<u8>, Cut>
+    requires ready { IsReady B.Resource engine.old }
+    requires plan { IsPlanFor engine.old.catalog plan }
+    ensures answered { IfOk result (IsNamedAnswered engine.old.core plan engine.new.core) }
+    ensures cut { IfErr result
+        (λ cut. (ps qs : List Handed) → IsCut cut
+        (play_start (session_of engine.old.core ps qs) plan.name (Some plan)) engine.old.core engine.new.core) }
+    ensures fault { IfErr result (λ cut. cut ≡ DiskFault → IsClosedByFault R.Rack engine.old engine.new) }
+    ensures queued { OnOk result (KeepsQueued engine.old engine.new) }
+    ensures goes { (may_start : List Plan') → IsOneOf may_start plan → GoesOn R.Rack may_start engine.old engine.new }
+    ensures fits { EachFits B.Resource engine.new.files.stores }
+    ensures ready { result ≢ Err DiskFault → IsReady B.Resource engine.new }
+{
+    engine.invariant_holds();
+    match told_of_name(alloc, engine, plan.name.bytes())? {
+        Some(text) => Ok(text),
+        None => start_named(alloc, engine, plan),
+    }
+}
+
 // A process of the one plan starts, unless there is none or more than one.
 fn start_one<R: Rack + Drop, B: Resource>(
     alloc: Global,
@@ -95,9 +121,7 @@ fn start_one<R: Rack + Drop, B: Resource>(
     requires ready { IsReady B.Resource engine.old }
     requires plans { Each (IsPlanFor engine.old.catalog) plans.items }
     ensures answered { IfOk result
-        (λ text. ((p : Plan') × (plans.items ≡ p ∷ [])
-        × ((ps qs : List Handed) → IsAnswered
-        (play_start (session_of engine.old.core ps qs) p.name (Some p)) engine.new.core ps qs text.items))
+        (λ text. ((p : Plan') × (plans.items ≡ p ∷ []) × IsNamedAnswered engine.old.core p engine.new.core text)
         ⊎ ((length plans.items ≢ 1) × (engine.new ≡ engine.old) × (text.items ≡ line_of (bad_line_words number)))) }
     ensures cut { IfErr result
         (λ cut. ((cut ≡ DiskFault) × (engine.new.core ≡ engine.old.core)) ⊎ ((cut ≡ NoMemory) × ((engine.new.core ≡ engine.old.core)
@@ -113,7 +137,7 @@ fn start_one<R: Rack + Drop, B: Resource>(
 {
     engine.invariant_holds();
     match only_one(plans) {
-        Some(plan) => start_named(alloc, engine, plan),
+        Some(plan) => start_unless_active(alloc, engine, plan),
         None => Ok(bad_line(alloc, number)?),
     }
 }

@@ -117,8 +117,8 @@ fn put_standing(
     )
 }
 
-// Whether a process that a request for its piece would answer so isn't active.
-fn is_over(reply: &Admit) -> bool
+/// Whether a process that a request for its piece would answer so isn't active.
+pub(crate) fn is_over(reply: &Admit) -> bool
     ensures { result ≡ is_over (admit_reply_of reply.now) }
 {
     match reply {

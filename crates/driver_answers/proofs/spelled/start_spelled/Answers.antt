@@ -6,13 +6,12 @@ use Rattle.commute_table.specs.declared.catalog.Catalog.{Catalog}
 use Rattle.command_input.specs.Scenarios.{AreGoodPlans, AreNoGoodPlans}
 use Rattle.engine_calls.proofs.Goes.{goes_none}
 use Rattle.machine_model.specs.Replies.{Handed}
-use Rattle.session_play.specs.Answering.{IsAnswered}
 use Rattle.session_play.specs.Pieces.{session_of}
 use Rattle.session_play.specs.Playing.{play_start}
 use Rattle.session_play.specs.declared.cut.Cut.TheVariants.{DiskFault, NoMemory}
 use Rattle.session_play.proofs.Outcomes.{err_map, ok_map}
 use Rattle.driver_requests.specs.Answers.{bad_line_words}
-use Rattle.driver_answers.specs.Serving.{IsSpelledAnswered}
+use Rattle.driver_answers.specs.Serving.{IsNamedAnswered, IsSpelledAnswered}
 use Rattle.driver_answers.proofs.SpelledStarts.{good_start, spelled_cut, spelled_started}
 use Rattle.driver_answers.proofs.spelled.start_spelled.Goals as goal
 
@@ -42,10 +41,10 @@ returns-in-Ok-clause-answered g c =
     let new = c.start_one.new.engine in
     let plans = c.in-Ok.plans.items in
     let good : AreGoodPlans old.catalog.ops c.args.spelled.now plans = subst (λ (cat : Catalog). AreGoodPlans cat.ops c.args.spelled.now plans) c.catalog.ensures c.in-Ok.ensures.plans in
-    ok_map c.start_one.result (λ text. ((p : Plan) × (plans ≡ p ∷ []) × ((ps qs : List Handed) → IsAnswered (play_start (session_of old.core ps qs) p.name (Some p)) new.core ps qs text.items))
+    ok_map c.start_one.result (λ text. ((p : Plan) × (plans ≡ p ∷ []) × IsNamedAnswered old.core p new.core text)
     ⊎ ((length plans ≢ 1) × (new ≡ old) × (text.items ≡ line_of (bad_line_words c.args.number))))
     (λ text. (ps qs : List Handed) → IsSpelledAnswered old.catalog (record { core = old.core; hand = record { unfinished = ps; queued = qs } }) c.args.number c.args.spelled.now (record { core = new.core; hand = record { unfinished = ps; queued = qs } }) text.items) c.start_one.ensures.answered
-    (λ text is. spelled_started old.catalog c.args.number c.args.spelled.now plans good old new text.items is)
+    (λ text is. spelled_started old.catalog c.args.number c.args.spelled.now plans good old new text is)
 
 pub returns-in-Ok-clause-cut : goal.returns-in-Ok-clause-cut
 returns-in-Ok-clause-cut g c =
