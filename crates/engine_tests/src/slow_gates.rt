@@ -61,11 +61,7 @@ impl Gate for SlowGate {
 }
 
 // How many device calls come before the run; the boxes are handed back.
-fn calls_before<H: Abort, B: Resource>(
-    rt: &H,
-    alloc: Global,
-    resources: Vec<B>,
-) -> (u64, Vec<B>)
+fn calls_before<H: Abort, B: Resource>(rt: &H, alloc: Global, resources: Vec<B>) -> (u64, Vec<B>)
     requires { AreBoxes B.sort resources.items }
     ensures { AreBoxes B.sort result.1.items }
 {
@@ -85,9 +81,18 @@ fn ran<H: Abort + Threads + Wait + Sync, B: Resource + Send>(
     ensures { EachFits B.Resource result.files.stores }
 {
     let Ok(gates) = vec![in alloc;
-        SlowGate { pauses: PAUSES, calls: 0 },
-        SlowGate { pauses: 0, calls: 0 },
-        SlowGate { pauses: 0, calls: 0 },
+        SlowGate {
+            pauses: PAUSES,
+            calls: 0
+        },
+        SlowGate {
+            pauses: 0,
+            calls: 0
+        },
+        SlowGate {
+            pauses: 0,
+            calls: 0
+        },
     ] else {
         panic!(rt; "no memory");
     };
@@ -117,7 +122,11 @@ fn expect_few_flushes<H: Abort + Threads + Wait + Sync, B: Resource + Send>(
     let engine = ran(rt, alloc, resources);
     assert_eq!(rt; engine.history().events.as_slice().len(), 12, "the history");
     let Parts { rack, resources: _ } = engine.into_parts();
-    assert_eq!(rt; rack.calls(), before.wrapping_add(CALLS), "the device calls");
+    assert_eq!(rt;
+        rack.calls(),
+        before.wrapping_add(CALLS),
+        "the device calls"
+    );
 }
 
 #[test]

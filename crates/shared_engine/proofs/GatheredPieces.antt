@@ -1,16 +1,14 @@
 -- Each piece that is out is queued exactly where of no process that started a piece is out and isn't queued.
-use Rattle.std.proofs.Common.{◌≡◌, ◌≤◌, ◌<◌, ◌+◌, ℕ, Bool, true, false, not, cond, eqb, ◌&&◌, ◌||◌, List, [], ◌∷◌, ◌++◌, length, find, Option, Some, None, sym, refl, ap, subst, ◌∙◌, arith}
+use Rattle.std.proofs.Common.{◌≡◌, ◌≤◌, ◌<◌, ◌+◌, ◌-◌, ℕ, suc, Bool, true, false, not, cond, eqb, ◌&&◌, ◌||◌, List, [], ◌∷◌, ◌++◌, length, find, Option, Some, None, sym, refl, ap, ◌∙◌, arith}
 use Rattle.std.specs.List.{list_all}
 use Rattle.std.specs.Option.{option_map}
 use Rattle.std.proofs.lemmas.Bool.{and_parts, eqb-true, eq-eqb, false≢true}
 use Rattle.std.proofs.lemmas.List.{length-append, length-map}
-use Rattle.process_disk.specs.Disk.{Disk}
 use Rattle.process_tree.proofs.Every.{Each-weaker}
 use Rattle.process_tree.specs.Blocks.{numbers_from}
 use Rattle.process_tree.specs.Order.{Each}
 use Rattle.schedule_model.specs.Histories.{is_active, is_in}
 use Rattle.machine_model.specs.Moment.{Moment, Piece}
-use Rattle.machine_model.specs.Groups.{Ended}
 use Rattle.machine_model.specs.Replies.{Handed}
 use Rattle.machine_model.proofs.Counting.{count}
 use Rattle.machine_model.proofs.OneOut.{OneOut, run-one}
@@ -21,11 +19,7 @@ use Rattle.process_core.specs.Moments.{seat_in}
 use Rattle.process_core.proofs.Rotations.{numbered_now}
 use Rattle.engine_steps.specs.Engines.{EngineState}
 use Rattle.process_engine.specs.declared.gates.Answer.{Answer}
-use Rattle.process_engine.specs.declared.group.Flush.{Flush as EngineFlush}
-use Rattle.process_engine.specs.declared.group.Flush.TheVariants as flush
-use Rattle.process_engine.specs.declared.replies.Queue.{Queue as EngineQueue}
 use Rattle.process_engine.specs.declared.replies.Queue.TheVariants as queue
-use Rattle.process_engine.specs.Flushing.{Flushes}
 use Rattle.process_engine.specs.Most.{most_queued}
 use Rattle.process_engine.specs.Pieces.{numbers_of}
 use Rattle.process_engine.specs.Queueing.{Queues}
@@ -68,6 +62,21 @@ all_at f (j ∷ js) k all listed = let parts = and_parts (f j) (list_all f js) a
 all_from : (f : ℕ → Bool) (ks : List ℕ) → ((k : ℕ) → f k ≡ true) → list_all f ks ≡ true
 all_from f [] each = refl
 all_from f (k ∷ ks) each = ap (λ b. b && list_all f ks) (each k) ∙ all_from f ks each
+
+-- a test of the numbers that are left: the first passes, or fails, or none is left
+pub first_passes : (f : ℕ → Bool) (i n : ℕ) (all : Bool) → i < n → f (i + 1) ≡ true → list_all f (numbers_from (i + 1) (n - i)) ≡ all
+    → list_all f (numbers_from (i + 1 + 1) (n - (i + 1))) ≡ all
+first_passes f i n all less here rest =
+    let more : n - i ≡ suc (n - (i + 1)) = omega (arith, less) in
+    sym (ap (λ b. b && list_all f (numbers_from (i + 1 + 1) (n - (i + 1)))) here) ∙ (ap (λ k. list_all f (numbers_from (i + 1) k)) (sym more) ∙ rest)
+
+pub first_fails : (f : ℕ → Bool) (i n : ℕ) → i < n → f (i + 1) ≡ false → list_all f (numbers_from (i + 1) (n - i)) ≡ false
+first_fails f i n less here =
+    let more : n - i ≡ suc (n - (i + 1)) = omega (arith, less) in
+    ap (λ k. list_all f (numbers_from (i + 1) k)) more ∙ ap (λ b. b && list_all f (numbers_from (i + 1 + 1) (n - (i + 1)))) here
+
+pub none_left : (f : ℕ → Bool) (i n : ℕ) → n ≤ i → list_all f (numbers_from (i + 1) (n - i)) ≡ true
+none_left f i n past = let left : n - i ≡ 0 = omega (arith, past) in ap (λ k. list_all f (numbers_from (i + 1) k)) left
 
 -- where no piece of a process is among these, there is no first
 none_out : (ps : List Piece) (k : ℕ) → count (is_of k) ps ≡ 0 → out_at ps k ≡ None
@@ -113,25 +122,32 @@ module _ (group : List ℕ) where
       by k false at most none = none
 
 -- of a core
-pub by_seats : (c : CoreState) → IsCore c → (group : List ℕ)
-    → list_all (λ k. not (is_unqueued group (seat_in c k).out)) (numbers_from 1 (length c.plans)) ≡ all_out_queued c group
-by_seats c core group = alike _ _
-    (λ all. each_queued group (numbers_from 1 (length c.plans)) m.out one.one listed
-    (λ k among. not_true (is_unqueued group (out_at m.out k)) (all_at (λ j. not (is_unqueued group (out_at m.out j))) (numbers_from 1 (length c.plans)) k all among)))
-    (λ all. all_from (λ k. not (is_unqueued group (out_at m.out k))) (numbers_from 1 (length c.plans)) (first_queued group m.out all))
-  where
-    abbrev m : Moment
-    m = moment_of c
+module _ (c : CoreState) (core : IsCore c) where
+  abbrev m : Moment
+  m = moment_of c
 
-    own : InOwnOrder (relation c) c.plans core.session.good m
-    own = run-own_order (relation c) c.plans core.session.good (machine_of c) refl core.session.legal core.session.run
+  own : InOwnOrder (relation c) c.plans core.session.good m
+  own = run-own_order (relation c) c.plans core.session.good (machine_of c) refl core.session.legal core.session.run
 
-    one : OneOut m
-    one = run-one (relation c) (machine_of c) core.session.run
+  one : OneOut m
+  one = run-one (relation c) (machine_of c) core.session.run
 
-    listed : Each (λ (p : Piece). is_in p.process (numbers_from 1 (length c.plans)) ≡ true) m.out
-    listed = Each-weaker (λ (p : Piece). is_active m.events p.process ≡ true) (λ (p : Piece). is_in p.process (numbers_from 1 (length c.plans)) ≡ true)
-        (λ p active'. sym (ap (is_in p.process) (numbered_now c core)) ∙ started_if m.events p.process active') m.out own.active
+  abbrev numbers : List ℕ
+  numbers = numbers_from 1 (length c.plans)
+
+  listed : Each (λ (p : Piece). is_in p.process numbers ≡ true) m.out
+  listed = Each-weaker (λ (p : Piece). is_active m.events p.process ≡ true) (λ (p : Piece). is_in p.process numbers ≡ true)
+      (λ p active'. sym (ap (is_in p.process) (numbered_now c core)) ∙ started_if m.events p.process active') m.out own.active
+
+  by_seats : (group : List ℕ) → list_all (λ k. not (is_unqueued group (seat_in c k).out)) numbers ≡ all_out_queued c group
+  by_seats group = alike _ _
+      (λ all. each_queued group numbers m.out one.one listed
+      (λ k among. not_true (is_unqueued group (out_at m.out k)) (all_at (λ j. not (is_unqueued group (out_at m.out j))) numbers k all among)))
+      (λ all. all_from (λ k. not (is_unqueued group (out_at m.out k))) numbers (first_queued group m.out all))
+
+  -- by how many started
+  pub by_count : (group : List ℕ) (n : ℕ) → n ≡ length c.plans → list_all (λ k. not (is_unqueued group (seat_in c k).out)) (numbers_from 1 n) ≡ all_out_queued c group
+  by_count group n is = ap (λ k. list_all (λ j. not (is_unqueued group (seat_in c j).out)) (numbers_from 1 k)) is ∙ by_seats group
 
 -- as many numbers as pieces are queued
 as_many : (ds : List Handed) → length (numbers_of (pieces_of ds)) ≡ length ds
@@ -150,24 +166,3 @@ module _ {R B : Type 0} (old new : EngineState R B) (group left : List Handed) w
       let added = length-append (numbers_of (pieces_of group)) (d.piece.number ∷ []) in
       let many = as_many left in
       omega (arith, few, more, added, many)
-
-  -- and without one what is queued stays
-  pub left_queued : (d : Handed) (a : Answer) (r : EngineQueue) → Queues old new group left d a r → (r ≡ queue.Queued → ⊥) → left ≡ group
-  left_queued d a queue.Queued queues not_queued = absurd (not_queued refl)
-  left_queued d a (queue.Full q) queues not_queued = queues.left.1
-  left_queued d a (queue.Retry k) queues not_queued = queues.left.1
-  left_queued d a queue.Failed queues not_queued = queues.left.1
-  left_queued d a queue.Over queues not_queued = queues.left.1
-  left_queued d a (queue.Dropped k) queues not_queued = queues.left.1
-  left_queued d a queue.Exhausted queues not_queued = queues.left.1
-  left_queued d a (queue.NoMemory q) queues not_queued = queues.left.1
-  left_queued d a (queue.Closed n) queues not_queued = absurd queues.reply
-
-  -- a flush leaves nothing, or all
-  pub none_flushed : (disk : R → Disk) (ends : List Ended) → Flushes disk old new group left (flush.Flushed ends) → left ≡ []
-  none_flushed disk ends flushes = flushes.left.none
-
-  pub left_flushed : (disk : R → Disk) (r : EngineFlush) → Flushes disk old new group left r → ((ends : List Ended) → r ≡ flush.Flushed ends → ⊥) → left ≡ group
-  left_flushed disk (flush.Flushed ends) flushes not_flushed = absurd (not_flushed ends refl)
-  left_flushed disk flush.DiskFault flushes not_flushed = flushes.left.same
-  left_flushed disk (flush.Closed n) flushes not_flushed = absurd flushes.left

@@ -1,6 +1,5 @@
 -- Each turn leads an engine on from its opening.
-use Rattle.std.proofs.Common.{◌≡◌, ◌≢◌, ◌≤◌, ◌∙◌, ◌||◌, ◌⊎◌, ⊎_elim, ℕ, Bool, true, false, List, [], ◌∷◌, ◌++◌, length, Option, ap, refl, sym, subst, arith}
-use Rattle.std.proofs.lemmas.List.{length-map}
+use Rattle.std.proofs.Common.{◌≡◌, ◌≢◌, ◌≤◌, ◌∙◌, ◌||◌, ⊎_elim, ℕ, Bool, true, false, List, [], ◌∷◌, ◌++◌, length, Option, ap, refl, sym, subst, arith}
 use Rattle.std.proofs.Math.Bool.{or-false}
 use Rattle.process_flow.specs.Causes.{Rose}
 use Rattle.process_disk.specs.declared.rack.Rack.{Ghosts as Racks}
@@ -13,7 +12,6 @@ use Rattle.machine_model.specs.declared.replies.Refusal.{Refusal}
 use Rattle.machine_model.specs.declared.replies.Refusal.TheVariants as refusal
 use Rattle.machine_model.specs.Calls.{next, next_is, next_kept}
 use Rattle.machine_model.specs.Groups.{Targets, refused}
-use Rattle.machine_model.specs.Moment.{Piece}
 use Rattle.machine_model.specs.Pieces.{runs}
 use Rattle.machine_model.specs.Replies.{Handed, all_victims}
 use Rattle.machine_model.proofs.QueuedPieces.{flushes_keep_what_runs}

@@ -1,5 +1,5 @@
 -- Worked examples, computed: when a flush is due.
-use Rattle.std.specs.Prelude.{◌≡◌, ℕ, true, false, List, [], ◌∷◌, ◌++◌, None, refl}
+use Rattle.std.specs.Prelude.{◌≡◌, true, false, List, [], ◌∷◌, ◌++◌, None, refl}
 use Rattle.process_tree.specs.Conflicts.{no_conflicts}
 use Rattle.schedule_model.specs.PlannedExample.{purchase_plan}
 use Rattle.machine_model.specs.declared.kept.Kept.{Kept}

@@ -120,10 +120,7 @@ pub fn queue<R: Rack + Drop, B: Resource>(
 
 /// The queued pieces that run take effect together, in the order in which they were queued. After a fault of the rack the engine is
 /// closed.
-pub fn flush<R: Rack + Drop, B: Resource>(
-    engine: &mut Engine<R, B>,
-    queued: &mut Gathered,
-) -> Flush
+pub fn flush<R: Rack + Drop, B: Resource>(engine: &mut Engine<R, B>, queued: &mut Gathered) -> Flush
     requires ready { IsReady B.Resource engine.old }
     requires queued { AreQueued engine.old queued.old }
     ensures flushes { Flushes R.disk engine.old engine.new queued.old queued.new result }
