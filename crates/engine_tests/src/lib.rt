@@ -1,4 +1,4 @@
-//! Tests of the engine: stops within every device call of a run and of a flush, and runs with gates.
+//! Tests of the engine: stops within every device call of a run and of a flush, runs with gates, and runs by several workers.
 //!
 //! They stand apart from the crates that they test, since a crate with tests is proved twice.
 #![tactic(auto)]
@@ -13,6 +13,8 @@ mod flush_rows;
 mod flushes;
 #[cfg(test)]
 mod gates;
+#[cfg(test)]
+mod slow_gates;
 #[cfg(test)]
 mod stops;
 #[cfg(test)]

@@ -1,5 +1,5 @@
 -- How many pieces of a group took effect, counted one by one.
-use Rattle.std.proofs.Common.{◌≡◌, ◌∙◌, ◌+◌, ◌<◌, ℕ, zero, suc, Bool, true, false, if◌then◌else◌, List, [], ◌∷◌, length, drop, Option, Some, None, refl, sym, ap, arith}
+use Rattle.std.proofs.Common.{◌≡◌, ◌∙◌, ◌+◌, ℕ, zero, suc, Bool, true, false, if◌then◌else◌, List, [], ◌∷◌, length, drop, Some, refl, sym, ap, arith}
 use Rattle.std.specs.List.{slice_get}
 use Rattle.machine_model.specs.Groups.{Ended, GroupEnd, dropped_at_event, effected}
 use Rattle.shared_engine.specs.GroupTurns.{effects_in, took_effect}

@@ -1,5 +1,5 @@
 -- A flush at an engine is a turn of the machine.
-use Rattle.std.proofs.Common.{◌≡◌, ◌≢◌, ◌∙◌, Bool, true, false, cond, ℕ, List, [], ◌∷◌, ◌++◌, length, map, filter, Option, Some, None, refl, sym, ap, subst, append-nil, append_assoc}
+use Rattle.std.proofs.Common.{◌≡◌, ◌∙◌, Bool, true, false, cond, ℕ, List, [], ◌∷◌, length, map, filter, Option, None, refl, sym, ap, subst, append-nil, append_assoc}
 use Rattle.process_disk.specs.Disk.{Disk}
 use Rattle.process_tree.specs.Order.{Each}
 use Rattle.process_tree.specs.declared.play.Outcome.TheVariants.{Done as Succeeds}
@@ -10,10 +10,10 @@ use Rattle.machine_model.specs.Groups.{flush_kept, kept_for_ended}
 use Rattle.machine_model.specs.Moment.{Moment, Piece}
 use Rattle.machine_model.specs.Pieces.{runs}
 use Rattle.machine_model.specs.Replies.{Handed}
-use Rattle.machine_model.specs.Turns.{Board, IsTurn, flushes, moved}
+use Rattle.machine_model.specs.Turns.{Board, IsTurn, flushes}
 use Rattle.machine_model.proofs.QueuedPieces.{flushes_keep_what_runs}
 use Rattle.process_core.specs.Answers.{after_call}
-use Rattle.process_core.specs.Cores.{CoreState, IsCore, courses_in, machine_of, moment_of, relation}
+use Rattle.process_core.specs.Cores.{CoreState, IsCore, machine_of, moment_of, relation}
 use Rattle.process_core.specs.Handing.{with_all, with_kept}
 use Rattle.process_core.proofs.CoreEffects.{effected_after}
 use Rattle.engine_steps.specs.Targets.{targets_of}

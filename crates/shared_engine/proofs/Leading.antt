@@ -1,6 +1,5 @@
 -- Each turn leads an engine on from its opening.
-use Rattle.std.proofs.Common.{◌≡◌, ◌≢◌, ◌≤◌, ◌∙◌, ◌||◌, ◌⊎◌, ⊎_elim, ℕ, Bool, true, false, List, [], ◌∷◌, ◌++◌, length, Option, ap, refl, sym, subst, arith}
-use Rattle.std.proofs.lemmas.List.{length-map}
+use Rattle.std.proofs.Common.{◌≡◌, ◌≢◌, ◌≤◌, ◌∙◌, ◌||◌, ⊎_elim, ℕ, Bool, true, false, List, [], ◌∷◌, ◌++◌, length, Option, ap, refl, sym, subst, arith}
 use Rattle.std.proofs.Math.Bool.{or-false}
 use Rattle.process_flow.specs.Causes.{Rose}
 use Rattle.process_disk.specs.declared.rack.Rack.{Ghosts as Racks}
@@ -13,7 +12,6 @@ use Rattle.machine_model.specs.declared.replies.Refusal.{Refusal}
 use Rattle.machine_model.specs.declared.replies.Refusal.TheVariants as refusal
 use Rattle.machine_model.specs.Calls.{next, next_is, next_kept}
 use Rattle.machine_model.specs.Groups.{Targets, refused}
-use Rattle.machine_model.specs.Moment.{Piece}
 use Rattle.machine_model.specs.Pieces.{runs}
 use Rattle.machine_model.specs.Replies.{Handed, all_victims}
 use Rattle.machine_model.proofs.QueuedPieces.{flushes_keep_what_runs}
@@ -66,13 +64,6 @@ settled_of Settled rest not_closed = refl
 settled_of UnderWay rest not_closed = absurd rest
 settled_of Closed rest not_closed = absurd (not_closed refl)
 
--- as many numbers as pieces are queued
-as_many : (ds : List Handed) → length (numbers_of (pieces_of ds)) ≡ length ds
-as_many ds = length-map (pieces_of ds) (λ (p : Piece). p.number) ∙ length-map ds (λ (d : Handed). d.piece)
-
-waits_alike : (r : CoreNext) (ds : List Handed) → waits_for_flush (length (numbers_of (pieces_of ds))) (said_of r) ≡ waits_for_flush (length ds) (said_of r)
-waits_alike r ds = ap (λ k. waits_for_flush k (said_of r)) (as_many ds)
-
 -- one phase isn't another
 not_both : (p : Phase) → p ≡ Closed → p ≡ Settled → ⊥
 not_both p shut settled = absurd cc
@@ -100,17 +91,18 @@ module _ {R B : Type 0} (racks : Racks R) (box : Resources B) (o : EngineState R
 
     -- A request for any piece,
     pub next_leads : (r : CoreNext) → next_is (next_reply_of r) ≡ (answer_in x.engine.core next).reply → y.engine ≡ with_core x.engine (after_call x.engine.core next) → y.queued ≡ x.queued
-        → y.due ≡ (x.due || waits_for_flush (length x.queued) (said_of r)) → IsGiven y.engine.core r → IsReady box y.engine → AreOf racks box o (es ++ Next (said_of r) ∷ []) y
+        → y.due ≡ (x.due || waits_for_flush y.engine.core (numbers_of (pieces_of x.queued)) (said_of r)) → IsGiven y.engine.core r → IsReady box y.engine → AreOf racks box o (es ++ Next (said_of r) ∷ []) y
     next_leads r replied is left due given ready =
         let core' = ap (λ (e : EngineState R B). e.core) is in
+        let core_then = core' ∙ sym (core_after x.engine.core r) in
         let told = ap (λ q. reply_in q (next_reply_of r)) (sym replied) in
         let vs = all_victims (relation x.engine.core) (courses_in x.engine.core) (moment_of x.engine.core) in
         let plans = ap (λ (c : CoreState). c.plans) core' in
         let kept = ap (λ (c : CoreState). c.kept) core' ∙ ap (λ q. x.engine.core.kept ++ (vs ++ next_kept q)) told in
         record {
           told = told-snoc table (opened o) es (progress x) (Next (said_of r)) (progress y) led.told (next_told table x.engine.core (numbers_of (pieces_of x.queued)) x.engine.phase x.due settled r replied)
-              (progress_of _ _ _ _ _ _ _ _ (core' ∙ sym (core_after x.engine.core r)) (ap (λ ds. numbers_of (pieces_of ds)) left) (ap (λ (e : EngineState R B). e.phase) is)
-              (due ∙ ap (λ b. x.due || b) (sym (waits_alike r x.queued))));
+              (progress_of _ _ _ _ _ _ _ _ core_then (ap (λ ds. numbers_of (pieces_of ds)) left) (ap (λ (e : EngineState R B). e.phase) is)
+              (due ∙ ap (λ (c : CoreState). x.due || waits_for_flush c (numbers_of (pieces_of x.queued)) (said_of r)) core_then));
           goes = goes_on;
           called = callable ready (subst (AreQueued y.engine) (sym left) (subst (λ e. AreQueued e x.queued) (sym is) (queued_at_next x.engine x.queued (led.called.queued settled))));
           fault = ready_so ready;

@@ -1,5 +1,6 @@
 pub mod Effects
 pub mod FlushTurns
+pub mod GatheredPieces
 pub mod HandedLater
 pub mod Leading
 pub mod MadeTurns

@@ -1,10 +1,8 @@
 -- The queueing of a piece at an engine is a turn of the machine.
-use Rattle.std.proofs.Common.{◌≡◌, ◌∙◌, ◌⊎◌, ◌||◌, if◌then◌else◌, Bool, true, false, ℕ, List, [], ◌∷◌, ◌++◌, length, map, Option, Some, None, inl, inr, ⊎_elim, refl, sym, ap, subst, append-nil}
+use Rattle.std.proofs.Common.{◌≡◌, ◌∙◌, ◌⊎◌, if◌then◌else◌, Bool, true, false, ℕ, List, [], ◌∷◌, ◌++◌, length, Option, Some, None, inl, inr, ⊎_elim, refl, sym, ap, subst, append-nil}
 use Rattle.std.specs.Bool.{IsTrue}
 use Rattle.std.proofs.lemmas.Bool.{false≢true}
-use Rattle.std.proofs.lemmas.List.{map-append}
-use Rattle.process_tree.specs.declared.play.Outcome.{Outcome}
-use Rattle.process_tree.specs.declared.play.Outcome.TheVariants.{Done as Succeeds, Refused as Fails}
+use Rattle.process_tree.specs.declared.play.Outcome.TheVariants.{Refused as Fails}
 use Rattle.schedule_model.specs.Histories.{is_in}
 use Rattle.machine_model.specs.declared.kept.Kept.{Kept}
 use Rattle.machine_model.specs.declared.kept.Kept.TheVariants.{Refuse}
@@ -16,21 +14,20 @@ use Rattle.machine_model.specs.declared.replies.Refusal.{Refusal}
 use Rattle.machine_model.specs.declared.replies.Refusal.TheVariants as refusal
 use Rattle.machine_model.specs.Advance.{advance}
 use Rattle.machine_model.specs.Calls.{finish}
-use Rattle.machine_model.specs.Groups.{Taken, as_done, as_refused, as_barred, may_take, Queue as Reply, queued, full, refused, over, dropped, no_piece, no_refusal, full_or, is_end_piece, is_full, out_queue, queue_adds, queue_by, queue_kept, queue_piece, refused_unless_end}
+use Rattle.machine_model.specs.Groups.{Taken, as_done, as_refused, as_barred, may_take, Queue as Reply, queued, full, refused, over, dropped, no_piece, no_refusal, is_end_piece, is_full, out_queue, queue_adds, queue_by, queue_kept, queue_piece}
 use Rattle.machine_model.specs.Moment.{Piece}
 use Rattle.machine_model.specs.Pieces.{piece_of, state_of}
 use Rattle.machine_model.specs.Progress.{same_work}
 use Rattle.machine_model.specs.Replies.{Handed, Finish as FinishReply, finish_by, finish_kept, finish_piece, finish_reply, out_finish, refusal_reply}
 use Rattle.machine_model.specs.Replies as ends
-use Rattle.machine_model.specs.Turns.{Board, IsStepPiece, IsTurn, MayTake, after_queue, moved, queues, says, is_closed}
+use Rattle.machine_model.specs.Turns.{Board, IsStepPiece, IsTurn, MayTake, moved, queues, says}
 use Rattle.machine_model.proofs.Snoc.{now-kept}
 use Rattle.process_core.specs.Answers.{after_call}
 use Rattle.process_core.specs.Cores.{CoreState, IsHandedBy, courses_in, machine_of, moment_of, relation}
 use Rattle.engine_steps.specs.Targets.{targets_of}
-use Rattle.engine_steps.specs.Engines.{EngineState, with_core}
+use Rattle.engine_steps.specs.Engines.{EngineState}
 use Rattle.engine_steps.specs.Rooms.{MakesRoomFor}
-use Rattle.engine_steps.specs.declared.engines.Phase.{Phase}
-use Rattle.engine_steps.specs.declared.engines.Phase.TheVariants.{Settled, Closed as Shut}
+use Rattle.engine_steps.specs.declared.engines.Phase.TheVariants.{Settled}
 use Rattle.process_engine.specs.Finishing.{is_barred}
 use Rattle.process_engine.specs.declared.gates.Answer.{Answer}
 use Rattle.process_engine.specs.declared.gates.Answer.TheVariants.{Done, Refused}

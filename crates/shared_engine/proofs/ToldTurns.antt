@@ -2,9 +2,8 @@
 use Rattle.std.proofs.Common.{◌≡◌, ◌∙◌, ◌||◌, ℕ, Bool, true, false, List, [], ◌∷◌, ◌++◌, refl, ap, sym, subst, ⊎_elim}
 use Rattle.process_disk.specs.Disk.{Disk}
 use Rattle.process_tree.specs.declared.play.Outcome.TheVariants.{Refused as Fails}
-use Rattle.machine_model.specs.declared.replies.Refusal.TheVariants as refusal
 use Rattle.machine_model.specs.Calls.{finish}
-use Rattle.machine_model.specs.Groups.{Queue as Reply, queued}
+use Rattle.machine_model.specs.Groups.{Queue as Reply}
 use Rattle.machine_model.specs.Replies.{Handed}
 use Rattle.machine_model.specs.Turns.{IsTurn, queues, flushes}
 use Rattle.process_core.specs.Answers.{after_call}
@@ -26,7 +25,6 @@ use Rattle.process_engine.specs.declared.replies.Queue.{Queue as EngineQueue}
 use Rattle.process_engine.specs.declared.replies.Queue.TheVariants as queue
 use Rattle.shared_engine.proofs.FlushTurns.{flush_turn, running_numbers}
 use Rattle.shared_engine.proofs.QueueTurns.{numbers-snoc, queue_turn}
-use Rattle.shared_engine.specs.declared.entries.FlushSaid.TheVariants as flushed
 use Rattle.shared_engine.specs.declared.entries.QueueSaid.TheVariants as put
 use Rattle.shared_engine.specs.declared.entries.TurnEntry.{TurnEntry}
 use Rattle.shared_engine.specs.declared.entries.TurnEntry.TheVariants.{Queue, Flush}

@@ -1,4 +1,6 @@
 pub mod Entries
+pub mod FlushExamples
+pub mod Gathering
 pub mod GroupTurns
 pub mod Outcomes
 pub mod Progress

@@ -1,5 +1,5 @@
 -- How far entries bring an engine: its core, what is queued and what goes on in it, and whether a flush is due, entry by entry.
-use Rattle.std.specs.Prelude.{◌≡◌, ℕ, Bool, true, false, ◌||◌, not, List, [], ◌∷◌, ◌++◌, filter, length, nat_eq}
+use Rattle.std.specs.Prelude.{◌≡◌, ℕ, Bool, true, false, ◌&&◌, ◌||◌, not, List, [], ◌∷◌, ◌++◌, filter, length, nat_eq}
 use Rattle.process_tree.specs.declared.play.Outcome.TheVariants as outcome
 use Rattle.machine_model.specs.Calls.{finish, next}
 use Rattle.machine_model.specs.Groups.{Targets}
@@ -22,6 +22,7 @@ use Rattle.shared_engine.specs.declared.entries.TurnEntry.{TurnEntry}
 use Rattle.shared_engine.specs.declared.entries.TurnEntry.TheVariants.{Next, Queue, Flush}
 use Rattle.shared_engine.specs.declared.shared.SharedEngine.{SharedEngine}
 use Rattle.shared_engine.specs.Entries.{IsEntryOf}
+use Rattle.shared_engine.specs.Gathering.{all_out_queued}
 
 -- a core, the numbers of the pieces that are queued, what goes on in its engine, and whether a flush is due
 pub record Progress : Type 0 where
@@ -43,13 +44,13 @@ progress x = record {
   due = x.due;
 }
 
--- a request is told to wait while so many pieces are queued, one at least
-abbrev pub waits_for_flush : ℕ → NextSaid → Bool
-waits_for_flush count (asked.Wait w) = not (nat_eq count 0)
-waits_for_flush count (asked.Piece n) = false
-waits_for_flush count asked.AllEnded = false
-waits_for_flush count (asked.Stuck i) = false
-waits_for_flush count (asked.Closed k) = false
+-- a request is told to wait while something is queued, and each piece that is out: none is worked on
+abbrev pub waits_for_flush : CoreState → List ℕ → NextSaid → Bool
+waits_for_flush c group (asked.Wait w) = not (nat_eq (length group) 0) && all_out_queued c group
+waits_for_flush c group (asked.Piece n) = false
+waits_for_flush c group asked.AllEnded = false
+waits_for_flush c group (asked.Stuck i) = false
+waits_for_flush c group (asked.Closed k) = false
 
 -- a piece finds the group full
 abbrev pub finds_full : QueueSaid → Bool
@@ -112,7 +113,7 @@ after p (Next said) = record {
   core = after_next p.core said;
   group = p.group;
   phase = p.phase;
-  due = p.due || waits_for_flush (length p.group) said;
+  due = p.due || waits_for_flush (after_next p.core said) p.group said;
 }
 after p (Queue n answer reply) = record {
   core = after_queue p.core n reply;
@@ -132,7 +133,8 @@ abbrev pub board_of : Progress → Board
 board_of p = record { machine = machine_of p.core; group = p.group; closed = closed_at p.phase (length p.core.kept) }
 
 -- The entry is a turn that the machine may make, and leads to what it is after it. Where it is a flush, one is due: since the flush
--- before it, or since the beginning, a piece found the group full, or a request had to wait while something was queued.
+-- before it, or since the beginning, a piece found the group full, or a request had to wait while something was queued and each piece
+-- that was out was queued.
 pub record IsTold (targets : Targets) (p : Progress) (e : TurnEntry) : Type 0 where
   pub turn : Turn
   pub entry : IsEntryOf turn e

@@ -7,11 +7,13 @@
 #![tactic(auto)]
 
 mod entries;
+mod gathering;
 mod outcomes;
 mod shared;
 mod turns;
 
 pub use entries::{FlushSaid, NextSaid, QueueSaid, TurnEntry, asked, flushed, queued};
+pub use gathering::Gathered;
 pub use outcomes::{NextTurn, QueueTurn, queue_entry};
 pub use shared::SharedEngine;
 pub use turns::{Pause, ask, hand_in, hand_in_again};

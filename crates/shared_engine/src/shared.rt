@@ -2,6 +2,8 @@
 ghost use Rattle.std.specs.Prelude.{◌≡◌, List, [], ◌∷◌, ◌++◌, ◌||◌, ◌&&◌, true, IfOk};
 ghost use Rattle.machine_model.specs.declared.kept.Work.TheVariants.{End};
 ghost use Rattle.engine_steps.specs.Engines.{EngineState};
+ghost use Rattle.process_engine.specs.Pieces.{numbers_of};
+ghost use Rattle.process_engine.specs.Queues.{pieces_of};
 ghost use Rattle.engine_calls.specs.GateAnswers.{IsGiven, IsHandedAs};
 ghost use Rattle.shared_engine.specs.declared.entries.TurnEntry.TheVariants as entry;
 ghost use Rattle.shared_engine.specs.Entries.{flush_said, lacks_memory, next_said, queue_said, said_of};
@@ -11,19 +13,21 @@ ghost use Rattle.shared_engine.specs.Progress.{finds_full, waits_for_flush};
 ghost use Rattle.shared_engine.specs.Shared.{AreOf, MayBeCalled, StandsFor, opens};
 
 use crate::entries::TurnEntry;
+use crate::gathering::{Gathered, flush, queue};
 use crate::outcomes::{NextTurn, QueueTurn};
-use engine_calls::{flush, next, queue};
+use engine_calls::next;
 use history_lock::Held;
 use process_core::{Next, Piece};
 use process_disk::Rack;
-use process_engine::{Answer, Closed, Engine, Flush, Queue, Queued};
+use process_engine::{Answer, Closed, Engine, Flush, Queue};
 use resource_box::Resource;
 
 /// An engine, and what is queued at it.
 pub struct SharedEngine<R: Rack + Drop, B: Resource> {
     pub engine: Engine<R, B>,
-    pub queued: Queued,
-    /// Since the last flush a piece found the group full, or a request had to wait while something was queued.
+    pub queued: Gathered,
+    /// Since the last flush a piece found the group full, or a request had to wait while something was queued and each piece that
+    /// was out was queued.
     pub due: bool,
     /// The queueing of a piece has found no memory.
     pub starved: bool,
@@ -100,7 +104,7 @@ impl<R: Rack + Drop, B: Resource> SharedEngine<R, B> {
             return Err(closed);
         }
         let reply = next(&mut self.engine);
-        let waits = waits_for_flush(&reply, self.queued.count());
+        let waits = waits_for_flush(&self.engine, &self.queued, &reply);
         self.due = either(self.due, waits);
         Ok(reply)
     }
@@ -129,11 +133,18 @@ fn either(mark: bool, sets: bool) -> bool
     mark || sets
 }
 
-// Whether a request that is answered so has to wait while so many pieces are queued, one at least.
-fn waits_for_flush(reply: &Next, count: usize) -> bool
-    ensures { result ≡ waits_for_flush count (said_of reply.now) }
+// Whether a request that is answered so has to wait while something is queued, and each piece that is out.
+fn waits_for_flush<R: Rack + Drop, B: Resource>(
+    engine: &Engine<R, B>,
+    queued: &Gathered,
+    reply: &Next,
+) -> bool
+    ensures { result ≡ waits_for_flush engine.now.core (numbers_of (pieces_of queued.now)) (said_of reply.now) }
 {
-    matches!(reply, Next::Wait(_)) && count != 0
+    match reply {
+        Next::Wait(_) => queued.count() != 0 && queued.has_all_out(engine),
+        Next::Piece(_) | Next::AllEnded | Next::Stuck(_) => false,
+    }
 }
 
 // Whether a piece found the group full.

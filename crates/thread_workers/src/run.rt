@@ -12,9 +12,9 @@ use crate::crew::run_jobs;
 use crate::seats::{give_jobs, take_all_in};
 use history_lock::{Desk, DeskRefused};
 use process_disk::Rack;
-use process_engine::{Engine, Gate, Queued};
+use process_engine::{Engine, Gate};
 use resource_box::Resource;
-use shared_engine::SharedEngine;
+use shared_engine::{Gathered, SharedEngine};
 use std::alloc::Global;
 use std::sync::Wait;
 use std::thread::Threads;
@@ -72,7 +72,7 @@ pub fn run_workers<
             };
         }
     };
-    let queued = match Queued::new(alloc) {
+    let queued = match Gathered::new(alloc) {
         Ok(queued) => queued,
         Err(_) => {
             jobs.destroy_empty();

@@ -1,7 +1,7 @@
-use Rattle.std.proofs.Common.{◌≤◌, ◌+◌, arith, refl}
+use Rattle.std.proofs.Common.{arith, refl}
 use Rattle.process_engine.specs.Ends.{end_as, ended_as}
 use Rattle.shared_engine.specs.GroupTurns.{took_effect}
-use Rattle.shared_engine.proofs.Effects.{none_more, one_more}
+use Rattle.shared_engine.proofs.Effects.{one_more}
 use Rattle.shared_engine.proofs.entries.effects_in.Goals as goal
 
 pub loop-place-preserved : goal.loop-place-preserved

@@ -1,4 +1,4 @@
-use Rattle.std.proofs.Common.{◌∙◌, ◌||◌, ap, refl}
+use Rattle.std.proofs.Common.{◌∙◌, ◌||◌, ap}
 use Rattle.shared_engine.proofs.Leading.{queue_leads, settled_of, shut_leads}
 use Rattle.shared_engine.proofs.shared.SharedEngine.hand_in.Goals as goal
 

@@ -1,6 +1,4 @@
 use Rattle.std.proofs.Common.{◌∙◌, ◌||◌, ap, refl}
-use Rattle.shared_engine.specs.Entries.{said_of}
-use Rattle.shared_engine.specs.Progress.{waits_for_flush}
 use Rattle.shared_engine.proofs.Leading.{closed_leads, next_leads, settled_of}
 use Rattle.shared_engine.proofs.shared.SharedEngine.next.Goals as goal
 
@@ -13,4 +11,4 @@ returns-clause-leads g c o es led =
     let x = c.args.self.now in
     let asked = c.next-reply.ensures in
     next_leads g.R.Rack g.B.Resource o x (record { engine = c.next-reply.new.engine; queued = x.queued; due = c.either-self.result; starved = x.starved }) es led
-    (settled_of x.engine.phase c.requires.called.rest c.in_default.ensures.open) c.invariant_holds.ensures.run (g.met.R.Rack.honest c.next-reply.new.engine.files.rack) asked.goes c.next-reply.result asked.reply asked.engine refl (c.either-self.ensures ∙ ap (λ b. x.due || b) (c.waits_for_flush-waits.ensures ∙ ap (λ k. waits_for_flush k (said_of c.next-reply.result)) c.count.ensures)) asked.given asked.ready
+    (settled_of x.engine.phase c.requires.called.rest c.in_default.ensures.open) c.invariant_holds.ensures.run (g.met.R.Rack.honest c.next-reply.new.engine.files.rack) asked.goes c.next-reply.result asked.reply asked.engine refl (c.either-self.ensures ∙ ap (λ b. x.due || b) c.waits_for_flush-waits.ensures) asked.given asked.ready
