@@ -1,5 +1,5 @@
 -- What a run comes to by the last call of a command, by its outcome.
-use Rattle.std.proofs.Common.{◌≡◌, ◌≢◌, ◌∙◌, ◌≤◌, ℕ, List, [], IfOk, IfErr, Result, inl, inr, ap, refl, append-nil, subst, sym}
+use Rattle.std.proofs.Common.{◌≡◌, ◌≢◌, ◌∙◌, ◌≤◌, ℕ, List, [], IfOk, IfErr, OnOk, Result, Ok, inl, inr, ap, refl, append-nil, subst, sym}
 use Rattle.process_flow.specs.Causes.{Rose}
 use Rattle.process_disk.specs.declared.rack.Rack.{Ghosts as Racks}
 use Rattle.process_tree.specs.declared.plan.Plan.{Plan}
@@ -49,10 +49,10 @@ module _ {R B : Type 0} (racks : Racks R) (box : Resources B) (old start mid : E
   module _ (new : EngineState R B) where
     -- The outcome is that of the engine after the last call too;
     pub outcome_then : (outcome : RunOutcome) → new.core ≡ mid.core → outcome ≢ DiskFault → IsOutcome mid outcome → IsOutcome new outcome
-    outcome_then AllEnded same no is = ap (λ (k : CoreState). active (history_of k)) same ∙ is
-    outcome_then (Stuck i) same no is = subst (λ (k : CoreState). ((answer_in k next).reply ≡ next_is (stuck i)) × IsStuckIn k i) (sym same) is
-    outcome_then DiskFault same no is = absurd (no refl)
-    outcome_then NoMemory same no is = tt
+    outcome_then AllEnded same other is = ap (λ (k : CoreState). active (history_of k)) same ∙ is
+    outcome_then (Stuck i) same other is = subst (λ (k : CoreState). ((answer_in k next).reply ≡ next_is (stuck i)) × IsStuckIn k i) (sym same) is
+    outcome_then DiskFault same other is = absurd (other refl)
+    outcome_then NoMemory same other is = tt
 
     -- and where that call failed, or the engine was closed before it, the run stopped.
     pub stopped_at_end : (gates : AskedGates) (plans : List Plan) (outcome : RunOutcome) (r : Refusal) → racks.faults old.files.rack ≤ racks.faults start.files.rack
@@ -86,14 +86,21 @@ module _ {R B : Type 0} (racks : Racks R) (box : Resources B) (old start mid : E
           ),
         )
 
--- What is said of a run that came to this outcome, and leaves the engine.
-module _ {R B : Type 0} (gates : AskedGates) (faults : R → ℕ) (old mid new : EngineState R B) (plans : List Plan) (outcome : RunOutcome) (gone : HasGone gates old.catalog (full_history old.core) plans mid.core)
-    (settled : mid.phase ≡ Settled) (no : outcome ≢ DiskFault) (left : new ≡ mid) (Says : CoreState → Said → Type 0) (found : Result Said Refusal) (said : IsSaidOf outcome (Says mid.core) found) where
+-- What is said of a run that came to its end, and leaves the engine.
+module _ {R B : Type 0} (box : Resources B) (gates : AskedGates) (faults : R → ℕ) (old mid new : EngineState R B) (plans : List Plan) (told : Result RunOutcome Refusal) (outcome : RunOutcome) (is : told ≡ Ok outcome)
+    (ran : IfOk told (λ o. HasGone gates old.catalog (full_history old.core) plans mid.core × IsOutcome mid o × (o ≢ DiskFault))) (ready : OnOk told (IsReady box mid)) (left : new ≡ mid)
+    (Says : CoreState → Said → Type 0) (found : Result Said Refusal) (said : IsSaidOf outcome (Says mid.core) found) where
+  its_end : HasGone gates old.catalog (full_history old.core) plans mid.core × IsOutcome mid outcome × (outcome ≢ DiskFault)
+  its_end = subst (λ t. IfOk t (λ o. HasGone gates old.catalog (full_history old.core) plans mid.core × IsOutcome mid o × (o ≢ DiskFault))) is ran
+
+  settled : mid.phase ≡ Settled
+  settled = (subst (λ (t : Result RunOutcome Refusal). OnOk t (IsReady box mid)) is ready).settled
+
   -- what is said at the end
   pub said_of_run : IfOk found (λ s. HasGone gates old.catalog (full_history old.core) plans new.core × (new.phase ≡ Settled) × Says new.core s)
   said_of_run =
       said_ok outcome (Says mid.core) (λ s. HasGone gates old.catalog (full_history old.core) plans new.core × (new.phase ≡ Settled) × Says new.core s) found
-      (λ on s says. subst (λ (e : EngineState R B). HasGone gates old.catalog (full_history old.core) plans e.core × (e.phase ≡ Settled) × Says e.core s) (sym left) (gone, settled, says)) said
+      (λ on s says. subst (λ (e : EngineState R B). HasGone gates old.catalog (full_history old.core) plans e.core × (e.phase ≡ Settled) × Says e.core s) (sym left) (its_end.0, settled, says)) said
 
   -- or that memory was wanting
   pub stopped_saying : IfErr found (λ r. IsStopped gates faults old new plans r)
@@ -103,6 +110,6 @@ module _ {R B : Type 0} (gates : AskedGates) (faults : R → ℕ) (old mid new :
         plans,
         [],
         sym (append-nil plans),
-        subst (λ (e : EngineState R B). HasGone gates old.catalog (full_history old.core) plans e.core) (sym left) gone,
+        subst (λ (e : EngineState R B). HasGone gates old.catalog (full_history old.core) plans e.core) (sym left) its_end.0,
         inl (refl, subst (λ (e : EngineState R B). e.phase ≡ Settled) (sym left) settled),
-      )) (λ fault. absurd (no fault)) said
+      )) (λ fault. absurd (its_end.2 fault)) said

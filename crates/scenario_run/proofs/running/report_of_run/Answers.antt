@@ -15,14 +15,14 @@ returns-in-Ok-clause-goes g c = subst (GoesOn g.R.Rack c.args.plans.items c.args
 pub returns-in-Ok-clause-ran : goal.returns-in-Ok-clause-ran
 returns-in-Ok-clause-ran g c =
     let ran = c.run_on-engine in
-    said_of_run (asked_gates g.G.Gate c.args.gates.items ran.result.gates.items) g.R.Rack.faults c.args.engine ran.result.engine c.said_of-found.new.engine c.args.plans.items c.in-Ok.outcome
-    c.in-Ok.ensures.ran.0 c.in-Ok.ensures.ready.settled c.in-Ok.ensures.ran.2 c.said_of-found.ensures.left (SaysRun c.args.engine.catalog) c.said_of-found.result (subst (λ d. IsSaidOf c.in-Ok.outcome (SaysRun d ran.result.engine.core) c.said_of-found.result) (ran.ensures.goes.catalog) c.said_of-found.ensures.said)
+    said_of_run g.B.Resource (asked_gates g.G.Gate c.args.gates.items ran.result.gates.items) g.R.Rack.faults c.args.engine ran.result.engine c.said_of-found.new.engine c.args.plans.items ran.result.outcome c.in-Ok.outcome c.in-Ok.is
+    ran.ensures.ran ran.ensures.ready c.said_of-found.ensures.left (SaysRun c.args.engine.catalog) c.said_of-found.result (subst (λ d. IsSaidOf c.in-Ok.outcome (SaysRun d ran.result.engine.core) c.said_of-found.result) (ran.ensures.goes.catalog) c.said_of-found.ensures.said)
 
 pub returns-in-Ok-clause-refused : goal.returns-in-Ok-clause-refused
 returns-in-Ok-clause-refused g c =
     let ran = c.run_on-engine in
-    stopped_saying (asked_gates g.G.Gate c.args.gates.items ran.result.gates.items) g.R.Rack.faults c.args.engine ran.result.engine c.said_of-found.new.engine c.args.plans.items c.in-Ok.outcome
-    c.in-Ok.ensures.ran.0 c.in-Ok.ensures.ready.settled c.in-Ok.ensures.ran.2 c.said_of-found.ensures.left (SaysRun c.args.engine.catalog) c.said_of-found.result (subst (λ d. IsSaidOf c.in-Ok.outcome (SaysRun d ran.result.engine.core) c.said_of-found.result) (ran.ensures.goes.catalog) c.said_of-found.ensures.said)
+    stopped_saying g.B.Resource (asked_gates g.G.Gate c.args.gates.items ran.result.gates.items) g.R.Rack.faults c.args.engine ran.result.engine c.said_of-found.new.engine c.args.plans.items ran.result.outcome c.in-Ok.outcome c.in-Ok.is
+    ran.ensures.ran ran.ensures.ready c.said_of-found.ensures.left (SaysRun c.args.engine.catalog) c.said_of-found.result (subst (λ d. IsSaidOf c.in-Ok.outcome (SaysRun d ran.result.engine.core) c.said_of-found.result) (ran.ensures.goes.catalog) c.said_of-found.ensures.said)
 
 pub returns-in-Ok-clause-owes : goal.returns-in-Ok-clause-owes
 returns-in-Ok-clause-owes g c =
