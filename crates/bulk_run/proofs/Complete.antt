@@ -9,7 +9,7 @@ use Rattle.history_files.specs.Creating.{IsDueToFiles}
 use Rattle.history_files.specs.declared.faults.CreateError.{CreateError}
 use Rattle.history_files.specs.declared.faults.CreateError.TheVariants as create
 use Rattle.process_engine.specs.Fitting.{limit_passed}
-use Rattle.engine_calls.specs.GateAnswers.{AskedGate}
+use Rattle.worker_gate.specs.ManyGates.{AskedGates}
 use Rattle.command_refusals.specs.declared.refusal.Refusal.{Refusal}
 use Rattle.command_refusals.specs.declared.refusal.Refusal.TheVariants as refusals
 use Rattle.command_refusals.specs.declared.status.Status.TheVariants as statuses
@@ -24,7 +24,7 @@ use Rattle.bulk_run.specs.Bulk.{IsBulkDue, IsBulkOf, IsCutOffAnew, IsPastLimitAn
 use Rattle.bulk_run.specs.Completeness.{AreEmptyFiles, IsBulkComplete, IsScenarioThatFits}
 use Rattle.process_core.specs.Cores.{CoreState}
 
-module _ (alloc : Global) (gate : AskedGate) (text : List ℕ) (before after : Files) (c : Catalog) (plans : List Plan) (fits : IsScenarioThatFits text c plans) (empty : AreEmptyFiles before)
+module _ (alloc : Global) (gates : AskedGates) (text : List ℕ) (before after : Files) (c : Catalog) (plans : List Plan) (fits : IsScenarioThatFits text c plans) (empty : AreEmptyFiles before)
     (quiet : ¬ Rose before.faults after.faults) where
   -- the files are made,
   by_error : (e : CreateError) → IsDueToFiles None e → (e ≡ create.DiskFault → Rose before.faults after.faults) → create_refusal e ≡ refusals.NoMemory
@@ -48,7 +48,7 @@ module _ (alloc : Global) (gate : AskedGate) (text : List ℕ) (before after : F
       absurd (cc)
 
   -- and the run isn't cut off
-  not_cut : (d : Catalog) (ps : List Plan) (r : Refusal) → IsCutOffAnew gate d ps before after r → r ≡ refusals.NoMemory
+  not_cut : (d : Catalog) (ps : List Plan) (r : Refusal) → IsCutOffAnew gates d ps before after r → r ≡ refusals.NoMemory
   not_cut d ps r (started, rest, now, are, inl memory) = memory.0
   not_cut d ps r (started, rest, now, are, inr fault) = absurd (quiet fault.2)
 
@@ -56,7 +56,7 @@ module _ (alloc : Global) (gate : AskedGate) (text : List ℕ) (before after : F
   by_line now s (inl done) = inl done.0
   by_line now s (inr stuck) = inr stuck.1
 
-  by_part : (found : Result Said Refusal) → IsNotRead gate text before after found ⊎ IsReadAndRun gate text before after found → IsReportThere found
+  by_part : (found : Result Said Refusal) → IsNotRead gates text before after found ⊎ IsReadAndRun gates text before after found → IsReportThere found
   by_part (Ok s) (inl none) = absurd (ill_formed alloc text c plans fits.bound s.text none.0.1)
   by_part (Ok s) (inr (d, ps, bound, (now, run, says))) = by_line now s says
   by_part (Err r) (inl none) = unbound alloc text c plans fits.bound r none.0
@@ -64,14 +64,14 @@ module _ (alloc : Global) (gate : AskedGate) (text : List ℕ) (before after : F
   by_part (Err r) (inr (d, ps, bound, inr (inl past))) = not_past d ps bound r past
   by_part (Err r) (inr (d, ps, bound, inr (inr cut))) = not_cut d ps r cut
 
-  pub line_there : (found : Result Said Refusal) → IsBulkDue gate text before after found → IsReportThere found
-  line_there found due = by_part found (due_in_parts gate text before after found due)
+  pub line_there : (found : Result Said Refusal) → IsBulkDue gates text before after found → IsReportThere found
+  line_there found due = by_part found (due_in_parts gates text before after found due)
 
 -- So it is whatever is due.
-pub due_is_complete : (alloc : Global) (gate : AskedGate) (text : List ℕ) (before after : Files) (found : Result Said Refusal) → IsBulkDue gate text before after found → IsBulkComplete text before after found
-due_is_complete alloc gate text before after found due c plans fits empty quiet = line_there alloc gate text before after c plans fits empty quiet found due
+pub due_is_complete : (alloc : Global) (gates : AskedGates) (text : List ℕ) (before after : Files) (found : Result Said Refusal) → IsBulkDue gates text before after found → IsBulkComplete text before after found
+due_is_complete alloc gates text before after found due c plans fits empty quiet = line_there alloc gates text before after c plans fits empty quiet found due
 
 -- what is said of a run is no verdict
-pub no_verdict_said : (gate : AskedGate) (d : Catalog) (ps : List Plan) (before after : Files) (s : Said) → IsBulkOf gate d ps before after (Ok s) → s.status ≡ statuses.IllFormed → ⊥
-no_verdict_said gate d ps before after s (now, run, inl done) is = absurd (let other = done.0 in cc)
-no_verdict_said gate d ps before after s (now, run, inr stuck) is = absurd (let other = stuck.1 in cc)
+pub no_verdict_said : (gates : AskedGates) (d : Catalog) (ps : List Plan) (before after : Files) (s : Said) → IsBulkOf gates d ps before after (Ok s) → s.status ≡ statuses.IllFormed → ⊥
+no_verdict_said gates d ps before after s (now, run, inl done) is = absurd (let other = done.0 in cc)
+no_verdict_said gates d ps before after s (now, run, inr stuck) is = absurd (let other = stuck.1 in cc)

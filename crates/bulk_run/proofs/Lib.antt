@@ -1,5 +1,4 @@
 pub mod BulkParts
 pub mod Complete
 pub mod Counted
-pub mod GoneAlone
 pub mod MadeAnew

@@ -19,21 +19,21 @@ use Rattle.engine_steps.specs.declared.engines.Phase.{Phase}
 use Rattle.engine_steps.specs.declared.engines.Phase.TheVariants.{Settled, Closed}
 use Rattle.process_engine.specs.Fitting.{limit_passed}
 use Rattle.engine_calls.specs.Acknowledged.{IsOneAhead}
-use Rattle.engine_calls.specs.GateAnswers.{AskedGate}
 use Rattle.engine_calls.specs.Opened.{AreKept}
 use Rattle.engine_calls.specs.Runs.{GoesOn}
 use Rattle.engine_calls.proofs.Beginnings.{OneEach}
 use Rattle.engine_calls.proofs.Opened.{are_kept}
 use Rattle.process_flow.specs.Causes.{Rose}
+use Rattle.worker_gate.specs.ManyGates.{AskedGates}
 use Rattle.command_refusals.specs.declared.refusal.Refusal.{Refusal}
 use Rattle.command_input.specs.declared.said.Said.{Said}
 use Rattle.command_input.specs.FilesLeft.{files}
 use Rattle.init_run.specs.Init.{AreMade}
-use Rattle.scenario_run.specs.Run.{one_gate}
-use Rattle.scenario_run.specs.Stops.{IsStoppedBy}
+use Rattle.scenario_run.specs.Run.{HasGone}
+use Rattle.scenario_run.specs.Stops.{IsStopped}
 use Rattle.history_opening.proofs.Rising.{rose_later}
 use Rattle.scenario_run.proofs.LastCall.{in_no_doubt}
-use Rattle.bulk_run.specs.Bulk.{AreMadeAndKept, HasGoneAlone, IsBulkOf, SaysBulk}
+use Rattle.bulk_run.specs.Bulk.{AreMadeAndKept, IsBulkOf, SaysBulk}
 
 -- an engine in which nothing has happened
 module _ {R B : Type 0} (d : Catalog) (e : EngineState R B) (new : IsNew d e) where
@@ -53,7 +53,7 @@ module _ {R B : Type 0} (d : Catalog) (e : EngineState R B) (new : IsNew d e) wh
   pub nobody_active : active (history_of e.core) ≡ []
   nobody_active = ap (λ core. active (history_of core)) new.core
 
-module _ {R B : Type 0} (r : Racks R) (honest : (rack : R) → Told (r.disk rack) → IsHonest (r.disk rack)) (gate : AskedGate) (entry back : R) (opening now : EngineState R B) (plans : List Plan)
+module _ {R B : Type 0} (r : Racks R) (honest : (rack : R) → Told (r.disk rack) → IsHonest (r.disk rack)) (gates : AskedGates) (entry back : R) (opening now : EngineState R B) (plans : List Plan)
     (d : Catalog) (new : IsNew d opening) (one_each : OneEach (full_history opening.core)) (tells : (r.disk opening.files.rack).tells ≡ (r.disk entry).tells)
     (later : r.faults entry ≤ r.faults opening.files.rack) (follow : Told (r.disk entry) → ImagesFollow (r.disk entry) (r.disk opening.files.rack))
     (empty : Told (r.disk entry) → first_used (r.disk entry).files ≡ None)
@@ -120,10 +120,10 @@ module _ {R B : Type 0} (r : Racks R) (honest : (rack : R) → Told (r.disk rack
             (subst (λ h. EachImage settled settled.moment (IsSound opening.catalog h)) (no_history_yet d opening new) (made_each (told_settled told)));
       })
 
-  gone_anew : (started : List Plan) → HasGoneAlone gate opening.catalog (full_history opening.core) started now.core → HasGoneAlone gate d no_history started now.core
-  gone_anew started gone = subst (λ c. HasGoneAlone gate c no_history started now.core) new.catalog (subst (λ h. HasGoneAlone gate opening.catalog h started now.core) (no_history_yet d opening new) gone)
+  gone_anew : (started : List Plan) → HasGone gates opening.catalog (full_history opening.core) started now.core → HasGone gates d no_history started now.core
+  gone_anew started gone = subst (λ c. HasGone gates c no_history started now.core) new.catalog (subst (λ h. HasGone gates opening.catalog h started now.core) (no_history_yet d opening new) gone)
 
-  stopped : (x : Refusal) → IsStoppedBy (HasGoneAlone gate opening.catalog (full_history opening.core)) (one_gate gate) r.faults opening now plans x → IsBulkOf gate d plans (files r entry) (files r back) (Err x)
+  stopped : (x : Refusal) → IsStopped gates r.faults opening now plans x → IsBulkOf gates d plans (files r entry) (files r back) (Err x)
   stopped x (inl (limit, said, passed, same, unasked)) =
       inr (inl (limit, said, subst (λ (core : CoreState). limit_passed core plans ≡ Some limit) new.core passed, made_still same))
   stopped x (inr (started, rest, all, gone, inl (said, on))) = inr (inr (started, rest, now.core, all, inl (said, (gone_anew started gone, kept_on Settled on))))
@@ -140,7 +140,7 @@ module _ {R B : Type 0} (r : Racks R) (honest : (rack : R) → Told (r.disk rack
         ),
       ))
 
-  pub run_anew_due : (found : Result Said Refusal) → IfOk found (λ s. HasGoneAlone gate opening.catalog (full_history opening.core) plans now.core × (now.phase ≡ Settled) × SaysBulk now.core s)
-      → IfErr found (IsStoppedBy (HasGoneAlone gate opening.catalog (full_history opening.core)) (one_gate gate) r.faults opening now plans) → IsBulkOf gate d plans (files r entry) (files r back) found
+  pub run_anew_due : (found : Result Said Refusal) → IfOk found (λ s. HasGone gates opening.catalog (full_history opening.core) plans now.core × (now.phase ≡ Settled) × SaysBulk now.core s)
+      → IfErr found (IsStopped gates r.faults opening now plans) → IsBulkOf gates d plans (files r entry) (files r back) found
   run_anew_due (Ok s) ran why = (now.core, (gone_anew plans ran.0, kept_on Settled ran.1), ran.2)
   run_anew_due (Err x) ran why = stopped x why

@@ -6,8 +6,6 @@ use Rattle.process_disk.specs.Disk.{Disk, FileSet, Told}
 use Rattle.process_disk.specs.Images.{EachImage}
 use Rattle.process_tree.specs.declared.plan.Plan.{Plan}
 use Rattle.schedule_model.specs.declared.event.Event.{Event}
-use Rattle.schedule_model.specs.declared.history.History.{History}
-use Rattle.schedule_model.specs.Histories.{active}
 use Rattle.commute_table.specs.declared.catalog.Catalog.{Catalog}
 use Rattle.process_core.specs.Cores.{CoreState, history_of, opened_on}
 use Rattle.process_journal.specs.Bodies.{no_history}
@@ -19,11 +17,9 @@ use Rattle.engine_steps.specs.Engines.{full_history}
 use Rattle.engine_steps.specs.declared.engines.Phase.{Phase}
 use Rattle.engine_steps.specs.declared.engines.Phase.TheVariants.{Settled, Closed}
 use Rattle.engine_calls.specs.Acknowledged.{ComeInTurn, IsOneAhead, events_of}
-use Rattle.engine_calls.specs.GateAnswers.{AskedGate}
-use Rattle.worker_gate.specs.Running.{AreTurns}
+use Rattle.worker_gate.specs.ManyGates.{AskedGates}
 use Rattle.command_refusals.specs.declared.refusal.Refusal.{Refusal}
 use Rattle.command_refusals.specs.declared.refusal.Refusal.TheVariants.{DiskFault, NoMemory}
-use Rattle.command_refusals.specs.declared.status.Status.TheVariants as statuses
 use Rattle.command_refusals.specs.Order.{Test, Tests, last_test, test_then, IsFirstRefusal, followed_by}
 use Rattle.command_input.specs.declared.said.Said.{Said}
 use Rattle.command_input.specs.declared.scenario.NoPlans.{NoPlans}
@@ -31,9 +27,8 @@ use Rattle.command_input.specs.FilesLeft.{Files, before_files}
 use Rattle.command_input.specs.Scenarios.{all_refusing, scenario_tests, IsBound}
 use Rattle.init_run.specs.Init.{empty_test, AreMade, AreNotMade}
 use Rattle.scenario_run.specs.Ending.{AreInNoDoubt}
-use Rattle.scenario_run.specs.Run.{HasGone, SaysAtEnd, limit_refusal, one_gate}
+use Rattle.scenario_run.specs.Run.{HasGone, SaysAtEnd, limit_refusal}
 use Rattle.scenario_run.specs.Scenario.{IsSaidOfNone}
-use Rattle.scenario_run.specs.Starting.{started_on}
 use Rattle.bulk_run.specs.Summary.{summary_line, summary_of}
 
 -- At some moment between an earlier disk and a later one the files were made; of that moment this holds.
@@ -55,18 +50,11 @@ pub record AreMadeAndKept (c : Catalog) (now : CoreState) (IsAhead : FileSet →
   pub each : on ≡ Settled → Told old → EachImage new new.moment (IsSound c (full_history now))
   pub in_no_doubt : AreInNoDoubt c now on old new
 
--- The machine opened on this history, in which no process is active. Processes of these plans started, in this order, and since
--- then all were only run, by this gate, in turns one after another, each of which hands out a piece and ends it, or not.
-pub record HasGoneAlone (gate : AskedGate) (c : Catalog) (h : History) (started : List Plan) (now : CoreState) : Type 0 where
-  pub gone : HasGone (one_gate gate) c h started now
-  pub cores : List CoreState
-  pub turns : AreTurns cores (started_on c h started) now
-
 -- A run on files that were made for it, up to now. The machine opened on a history without events; processes of these plans
--- started, in this order, and since then all were only run, by the gate, turn by turn.
-abbrev pub IsRunAnew : AskedGate → Catalog → List Plan → List Plan → CoreState → Phase → Files → Files → Type 0
-IsRunAnew gate c plans started now on before after =
-    HasGoneAlone gate c no_history started now × AreMadeAndKept c now (IsOneAhead c plans now on) on before.disk after.disk
+-- started, in this order, and since then all were only run, by these gates, as of `run`.
+abbrev pub IsRunAnew : AskedGates → Catalog → List Plan → List Plan → CoreState → Phase → Files → Files → Type 0
+IsRunAnew gates c plans started now on before after =
+    HasGone gates c no_history started now × AreMadeAndKept c now (IsOneAhead c plans now on) on before.disk after.disk
 
 -- The files were made, and the processes don't all fit within the limits: nothing was kept.
 abbrev pub IsPastLimitAnew : Catalog → List Plan → Files → Files → Refusal → Type 0
@@ -91,11 +79,11 @@ bulk_tests text before after =
     followed_by (before_files before after (scenario_tests text)) (λ bound. all_refusing (files_tests bound.0 bound.1 before after))
 
 -- A run was cut off once the first of the processes had started, or all: memory was wanting, or a call of the rack failed.
-abbrev pub IsCutOffAnew : AskedGate → Catalog → List Plan → Files → Files → Refusal → Type 0
-IsCutOffAnew gate c plans before after r =
+abbrev pub IsCutOffAnew : AskedGates → Catalog → List Plan → Files → Files → Refusal → Type 0
+IsCutOffAnew gates c plans before after r =
     (started rest : List Plan) × (now : CoreState) × (plans ≡ started ++ rest)
-    × (((r ≡ NoMemory) × IsRunAnew gate c plans started now Settled before after)
-    ⊎ ((r ≡ DiskFault) × IsRunAnew gate c plans started now Closed before after × Rose before.faults after.faults))
+    × (((r ≡ NoMemory) × IsRunAnew gates c plans started now Settled before after)
+    ⊎ ((r ≡ DiskFault) × IsRunAnew gates c plans started now Closed before after × Rose before.faults after.faults))
 
 -- the line of a core's history
 abbrev pub line_in : CoreState → List ℕ
@@ -107,20 +95,20 @@ SaysBulk now said = SaysAtEnd (line_in now) now said
 
 -- What there is to say of a run of these processes on files that are made for them: its line. Else it is refused, in this order:
 -- the files, and what would pass a limit; or it was cut off.
-abbrev pub IsBulkOf : AskedGate → Catalog → List Plan → Files → Files → Result Said Refusal → Type 0
-IsBulkOf gate c plans before after (Ok said) =
-    (now : CoreState) × IsRunAnew gate c plans plans now Settled before after × SaysBulk now said
-IsBulkOf gate c plans before after (Err r) =
-    AreNotMade r before after ⊎ IsPastLimitAnew c plans before after r ⊎ IsCutOffAnew gate c plans before after r
+abbrev pub IsBulkOf : AskedGates → Catalog → List Plan → Files → Files → Result Said Refusal → Type 0
+IsBulkOf gates c plans before after (Ok said) =
+    (now : CoreState) × IsRunAnew gates c plans plans now Settled before after × SaysBulk now said
+IsBulkOf gates c plans before after (Err r) =
+    AreNotMade r before after ⊎ IsPastLimitAnew c plans before after r ⊎ IsCutOffAnew gates c plans before after r
 
 -- what there is to say of a run on files that were made: its line; or it was cut off
-abbrev pub IsBulkOn : AskedGate → Catalog → List Plan → Files → Files → Result Said Refusal → Type 0
-IsBulkOn gate c plans before after (Ok said) = IsBulkOf gate c plans before after (Ok said)
-IsBulkOn gate c plans before after (Err r) = IsCutOffAnew gate c plans before after r
+abbrev pub IsBulkOn : AskedGates → Catalog → List Plan → Files → Files → Result Said Refusal → Type 0
+IsBulkOn gates c plans before after (Ok said) = IsBulkOf gates c plans before after (Ok said)
+IsBulkOn gates c plans before after (Err r) = IsCutOffAnew gates c plans before after r
 
 -- What there is to say of a run of the scenario that this text is: what the first of all tests refuses; or else what there is to
 -- say of the run.
-abbrev pub IsBulkDue : AskedGate → List ℕ → Files → Files → Result Said Refusal → Type 0
-IsBulkDue gate text before after found =
+abbrev pub IsBulkDue : AskedGates → List ℕ → Files → Files → Result Said Refusal → Type 0
+IsBulkDue gates text before after found =
     IsSaidOfNone (IsFirstRefusal (bulk_tests text before after)) found
-    ⊎ ((c : Catalog) × (plans : List Plan) × IsBound text c plans × IsBulkOn gate c plans before after found)
+    ⊎ ((c : Catalog) × (plans : List Plan) × IsBound text c plans × IsBulkOn gates c plans before after found)

@@ -180,9 +180,9 @@ always_said gates before after files files_after said (inr run) is = by_report r
         let wrong : false ≡ true = ap is_always_early (sym stuck.1) ∙ is in absurd (cc)
 
 -- so of what a run on new files has to say
-bulk_said : (gate : AskedGate) (text : List ℕ) (files files_after : Files) (said : Said) → IsBulkFound gate text files files_after (Ok said) → is_always_early said.status ≡ true → is_verdict said.status ≡ true
-bulk_said gate text files files_after said (inl none) is = subst (λ (s : Status). is_verdict s ≡ true) (sym none.0) refl
-bulk_said gate text files files_after said (inr (c, plans, bound, (now, run, says))) is = by_line says
+bulk_said : (gates : AskedGates) (text : List ℕ) (files files_after : Files) (said : Said) → IsBulkFound gates text files files_after (Ok said) → is_always_early said.status ≡ true → is_verdict said.status ≡ true
+bulk_said gates text files files_after said (inl none) is = subst (λ (s : Status). is_verdict s ≡ true) (sym none.0) refl
+bulk_said gates text files files_after said (inr (c, plans, bound, (now, run, says))) is = by_line says
   where
     by_line : SaysBulk now said → is_verdict said.status ≡ true
     by_line (inl all) =
@@ -358,7 +358,7 @@ module _ {S K R : Type 0} (before after : World S K R) where
   by_command (Some Restart) gates (shown c h) due untouched early is = absurd due
   by_command (Some Restart) gates accepted due untouched early is = absurd due
   by_command (Some Restart) gates (printed text) due untouched early is = absurd due
-  by_command (Some (Bulk number count)) gates (ended said) due untouched early is = early (bulk_said (first_gate gates) (scenario number count) before.files after.files said due is)
+  by_command (Some (Bulk number count)) gates (ended said) due untouched early is = early (bulk_said (first_gates 1 gates) (scenario number count) before.files after.files said due is)
   by_command (Some (Bulk number count)) gates (refused r) due untouched early is = early (always_refusal r is)
   by_command (Some (Bulk number count)) gates (checked ps vs) due untouched early is = absurd due
   by_command (Some (Bulk number count)) gates created due untouched early is = absurd due

@@ -86,10 +86,10 @@ restart_says gate files files_after (Ok said) due = (ended said, refl, due, refl
 restart_says gate files files_after (Err r) due = due
 
 -- what a run on new files found is said
-pub bulk_says : (gate : AskedGate) (number count : ℕ) (files files_after : Files) (found : Result Said Refusal) → IsBulkFound gate (scenario number count) files files_after found
-    → Says (IsBulkDue gate number count files files_after) found
-bulk_says gate number count files files_after (Ok said) due = (ended said, refl, due, refl, refl)
-bulk_says gate number count files files_after (Err r) due = due
+pub bulk_says : (gates : AskedGates) (number count : ℕ) (files files_after : Files) (found : Result Said Refusal) → IsBulkFound gates (scenario number count) files files_after found
+    → Says (IsBulkDue gates number count files files_after) found
+bulk_says gates number count files files_after (Ok said) due = (ended said, refl, due, refl, refl)
+bulk_says gates number count files files_after (Err r) due = due
 
 -- what `init` found is said
 pub init_says : (values strict : Bool) (before after : Input) (files files_after : Files) (found : Result Said Refusal) → IsInitFound values strict before after files files_after found

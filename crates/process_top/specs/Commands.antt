@@ -64,7 +64,7 @@ IsDueTo (Some (Audit true)) gates before after files files_after reply =
 IsDueTo (Some (Gen number count)) gates before after files files_after reply =
     IsGenDue number count reply × AreUntouched files files_after
 IsDueTo (Some (Bulk number count)) gates before after files files_after reply =
-    IsBulkDue (first_gate gates) number count files files_after reply
+    IsBulkDue (first_gates 1 gates) number count files files_after reply
 IsDueTo (Some (Help about)) gates before after files files_after reply = IsHelpDue about reply × AreUntouched files files_after
 IsDueTo (Some Version) gates before after files files_after reply = IsVersionDue reply × AreUntouched files files_after
 
@@ -113,7 +113,7 @@ needs (Some Replay) = record { input = false; files = true; boxes = true; gate =
 needs (Some Verify) = record { input = true; files = false; boxes = false; gate = false; gates = 1; workers = None }
 needs (Some (Audit history)) = record { input = true; files = history; boxes = false; gate = false; gates = 1; workers = None }
 needs (Some (Gen number count)) = record { input = false; files = false; boxes = false; gate = false; gates = 1; workers = None }
-needs (Some (Bulk number count)) = record { input = false; files = true; boxes = true; gate = true; gates = 1; workers = None }
+needs (Some (Bulk number count)) = record { input = false; files = true; boxes = true; gate = true; gates = 1; workers = Some 1 }
 needs (Some (Help about)) = record { input = false; files = false; boxes = false; gate = false; gates = 1; workers = None }
 needs (Some Version) = record { input = false; files = false; boxes = false; gate = false; gates = 1; workers = None }
 
@@ -134,9 +134,10 @@ abbrev pub words_refusal : WordsError → Refusal
 words_refusal errors.BadWords = BadWords
 words_refusal errors.NoMemory = NoMemory
 
--- `run` waits for its workers, so where a call may not wait its words ask for nothing
+-- `run` and `bulk` wait for their workers, so where a call may not wait their words ask for nothing
 abbrev pub at_once : Option Command → Option Command
 at_once (Some (Run workers)) = None
+at_once (Some (Bulk number count)) = None
 at_once o = o
 
 -- the status of verdicts

@@ -4,7 +4,7 @@ ghost use Rattle.process_disk.specs.Disk.{Told};
 ghost use Rattle.command_refusals.specs.Statuses.{number_of};
 ghost use Rattle.command_refusals.specs.declared.status.Status.TheVariants.{Done, IllFormed};
 ghost use Rattle.program_words.specs.Forms.{IsInRange};
-ghost use Rattle.program_words.specs.declared.reading.Command.TheVariants.{Replay, Restart, Run};
+ghost use Rattle.program_words.specs.declared.reading.Command.TheVariants.{Bulk, Replay, Restart, Run};
 ghost use Rattle.history_files.specs.Boxes.{AreBoxes};
 ghost use Rattle.command_input.specs.FilesLeft.{AreLeft};
 ghost use Rattle.replay_run.specs.Replay.{HaveValuesOfFile};
@@ -21,11 +21,10 @@ use crate::check::check;
 use crate::expanding::expand;
 use crate::generating::{help, scenario, version};
 use crate::laws::printed_lists_keep_values;
-use crate::running::run_by_first;
+use crate::running::{bulk_by_first, run_by_first};
 use crate::show::show;
 use crate::told::tell_ending;
 use crate::verify::verify;
-use bulk_run::bulk;
 use command_input::{CommandEnd, Said};
 use command_refusals::{Refusal, Status};
 use init_run::init;
@@ -91,7 +90,7 @@ fn unsaid<P: Drop>(end: CommandEnd<P>) -> Served<P>
     }
 }
 
-// How a command ends that doesn't wait. `run` does, so its words are bad here.
+// How a command ends that doesn't wait. `run` and `bulk` do, so their words are bad here.
 fn done<S: Source, K: Sink, R: Rack + Drop, B: Resource, G: Gate>(
     alloc: Global,
     command: Command,
@@ -133,6 +132,7 @@ fn done<S: Source, K: Sink, R: Rack + Drop, B: Resource, G: Gate>(
         Command::Expand => untold(parts, expand(alloc, source)),
         Command::Init { values, strict } => unsaid(init(alloc, source, parts, values, strict)),
         Command::Run { .. } => untold(parts, Err(Refusal::BadWords)),
+        Command::Bulk { .. } => untold(parts, Err(Refusal::BadWords)),
         Command::Session => unsaid(session(alloc, source, parts)),
         Command::Serve => serve(alloc, source, sink, parts),
         Command::Restart => unsaid(restart(alloc, parts, &mut gates[0])),
@@ -150,9 +150,6 @@ fn done<S: Source, K: Sink, R: Rack + Drop, B: Resource, G: Gate>(
             untold(parts, found)
         }
         Command::Gen { number, count } => untold(parts, scenario(alloc, number, count)),
-        Command::Bulk { number, count } => {
-            unsaid(bulk(alloc, number, count, parts, &mut gates[0]))
-        }
         Command::Help { about } => untold(parts, help(alloc, about)),
         Command::Version => untold(parts, version(alloc)),
     }
@@ -257,7 +254,7 @@ fn answer_to<S: Source, K: Sink, R: Rack + Drop, B: Resource, G: Gate>(
 }
 
 /// Answers a list of words over a source, a sink, a rack, the boxes of eight subsystems and sixteen gates. It doesn't wait, so
-/// `run` is bad words to it.
+/// `run` and `bulk` are bad words to it.
 pub fn answer<S: Source, K: Sink, R: Rack + Drop, B: Resource, G: Gate>(
     alloc: Global,
     words: &[String],
@@ -278,16 +275,6 @@ pub fn answer<S: Source, K: Sink, R: Rack + Drop, B: Resource, G: Gate>(
     match read_words(alloc, words) {
         Ok(command) => answer_to(alloc, command, source, sink, rack, resources, gates),
         Err(why) => unread(alloc, why, source, sink, rack, resources, gates),
-    }
-}
-
-// With how many workers a command runs, if it waits for workers.
-fn workers_of(command: Command) -> Option<u32>
-    ensures { result ≡ (needs (Some command)).workers }
-{
-    match command {
-        Command::Run { workers } => Some(workers),
-        _ => None,
     }
 }
 
@@ -331,7 +318,49 @@ fn answer_run<
     tell_served(alloc, sink, served, gates)
 }
 
-/// Answers a list of words, as `answer` does, and `run` too, whose workers wait for one another.
+// Answers to `bulk` of two numbers.
+fn answer_bulk<
+    H: Threads + Wait + Sync,
+    S: Source,
+    K: Sink,
+    R: Rack + Drop + Send,
+    B: Resource + Send,
+    G: Gate + Send,
+>(
+    rt: &H,
+    alloc: Global,
+    number: u64,
+    count: u32,
+    source: &mut S,
+    sink: &mut K,
+    rack: R,
+    resources: Vec<B>,
+    gates: Vec<G>,
+) -> Finished<R, G, B>
+    requires range { (1 ≤ count) × (count ≤ 256) }
+    requires boxes { AreBoxes B.sort resources.items }
+    requires gates { length gates.items ≡ 16 }
+    ensures { AnswersTo (Some (Bulk number count))
+        (world S.Source K.Sink R.Rack B.Resource G.Gate source.old sink.old rack resources.items gates.items)
+        (world S.Source K.Sink R.Rack B.Resource G.Gate source.new sink.new result.rack result.resources.items result.gates.items)
+        result.status result.refused }
+{
+    printed_lists_keep_values();
+    let _ = source;
+    let parts = Parts { rack, resources };
+    let RunEnd {
+        parts,
+        gates,
+        found,
+    } = bulk_by_first(rt, alloc, number, count, parts, gates);
+    let served = Served {
+        parts,
+        ending: Ending::Due(found),
+    };
+    tell_served(alloc, sink, served, gates)
+}
+
+/// Answers a list of words, as `answer` does, and `run` and `bulk` too, whose workers wait for one another.
 pub fn top<
     H: Threads + Wait + Sync,
     S: Source,
@@ -361,8 +390,13 @@ pub fn top<
         Ok(command) => command,
         Err(why) => return unread(alloc, why, source, sink, rack, resources, gates),
     };
-    match workers_of(command) {
-        Some(workers) => answer_run(rt, alloc, workers, source, sink, rack, resources, gates),
-        None => answer_to(alloc, command, source, sink, rack, resources, gates),
+    match command {
+        Command::Run { workers } => {
+            answer_run(rt, alloc, workers, source, sink, rack, resources, gates)
+        }
+        Command::Bulk { number, count } => {
+            answer_bulk(rt, alloc, number, count, source, sink, rack, resources, gates)
+        }
+        _ => answer_to(alloc, command, source, sink, rack, resources, gates),
     }
 }

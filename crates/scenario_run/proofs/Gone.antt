@@ -13,11 +13,10 @@ use Rattle.process_core.specs.Handing.{with_served}
 use Rattle.engine_steps.specs.Engines.{EngineState, full_history}
 use Rattle.engine_steps.specs.Opening.{IsOpened}
 use Rattle.process_engine.specs.declared.gates.Answer.{Answer}
-use Rattle.engine_calls.specs.GateAnswers.{AreAnswered, AskedGate, GateCounts, kept_since, steps_handed, unbarred_refusals}
+use Rattle.engine_calls.specs.GateAnswers.{AreAnswered, GateCounts, kept_since, steps_handed, unbarred_refusals}
 use Rattle.worker_gate.specs.ManyGates.{AreAskedInAll, AskedGates, RanByGates, WasRunByGates}
-use Rattle.worker_gate.specs.Running.{IsOfRunning, RanBy}
-use Rattle.worker_gate.proofs.ManyCalls.{ran_by_one}
-use Rattle.scenario_run.specs.Run.{HasGone, one_gate}
+use Rattle.worker_gate.specs.Running.{IsOfRunning}
+use Rattle.scenario_run.specs.Run.{HasGone}
 use Rattle.scenario_run.specs.Starting.{started_on, with_started}
 
 -- behind a list stands what was put there
@@ -103,9 +102,3 @@ module _ {R B : Type 0} (opening : EngineState R B) (opened : IsOpened opening) 
         run = subst (λ c. WasRunByGates gates c on now.core) catalog
             (subst (λ core. WasRunByGates gates mid.catalog core now.core) same (run_by racks gates mid now core table ran));
       }
-
-  -- So it is of one gate, by which a thread ran them.
-  pub gone_run_by_one : (racks : Racks R) (gate : AskedGate) (mid now : EngineState R B) → IsCore now.core → mid.catalog ≡ opening.catalog
-      → mid.core ≡ with_started opening.core started → RanBy racks gate mid now → HasGone (one_gate gate) opening.catalog h started now.core
-  gone_run_by_one racks gate mid now core catalog is ran =
-      gone_run racks (one_gate gate) mid now core catalog is (ran_by_one racks gate mid now ran)

@@ -4,7 +4,6 @@ pub mod Differences
 pub mod FirstActive
 pub mod Fitting
 pub mod Gone
-pub mod IdleStarts
 pub mod LastCall
 pub mod NotRefused
 pub mod NothingWrong
@@ -15,6 +14,7 @@ pub mod OpeningParts
 pub mod OwnCatalog
 pub mod RunDue
 pub mod RunParts
+pub mod RunToEnd
 pub mod SaidFirst
 pub mod SaidOfNone
 pub mod SaidOutcomes

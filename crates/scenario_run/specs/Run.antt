@@ -1,6 +1,6 @@
 -- The command `run`: the processes of a scenario start in the order of its text, on files that are opened for it, and then they are
 -- run.
-use Rattle.std.specs.Prelude.{◌≡◌, ◌≢◌, ◌⊎◌, ℕ, List, [], ◌∷◌, ◌++◌, Some, None, Result, Ok, Err, ⊤}
+use Rattle.std.specs.Prelude.{◌≡◌, ◌≢◌, ◌⊎◌, ℕ, List, [], ◌++◌, Some, None, Result, Ok, Err, ⊤}
 use Rattle.process_flow.specs.Causes.{Rose}
 use Rattle.process_tree.specs.declared.plan.Plan.{Plan}
 use Rattle.schedule_model.specs.declared.history.History.{History}
@@ -16,7 +16,6 @@ use Rattle.engine_steps.specs.declared.engines.Phase.TheVariants.{Settled, Close
 use Rattle.process_engine.specs.declared.fitting.StartLimit.{StartLimit}
 use Rattle.process_engine.specs.declared.fitting.StartLimit.TheVariants as limits
 use Rattle.engine_calls.specs.Acknowledged.{IsOneAhead}
-use Rattle.engine_calls.specs.GateAnswers.{AskedGate}
 use Rattle.engine_calls.specs.Opened.{AreKept, AreOnlyOpened}
 use Rattle.worker_gate.specs.declared.alone.RunOutcome.{RunOutcome}
 use Rattle.worker_gate.specs.declared.alone.RunOutcome.TheVariants as outcomes
@@ -36,10 +35,6 @@ use Rattle.scenario_run.specs.Opening.{catalog_test, files_test, idle_test, once
 use Rattle.scenario_run.specs.Reports.{HasUsedUp, exhausted_line, report_in}
 use Rattle.scenario_run.specs.Scenario.{read_tests, IsSaidOfNone, IsScenarioRead}
 use Rattle.scenario_run.specs.Starting.{started_on}
-
--- one gate as the gates of a run
-abbrev pub one_gate : AskedGate → AskedGates
-one_gate gate = record { answers = gate.answers; before = gate.before ∷ []; after = gate.after ∷ [] }
 
 -- The machine opened on this history, in which no process is active. Processes of these plans started, in this order, and since
 -- then all were only run, by these gates, in calls one after another, each of which hands out a piece or ends one, or neither.

@@ -5,7 +5,6 @@ ghost use Rattle.history_files.specs.Standing.{EachFits};
 ghost use Rattle.engine_steps.specs.declared.engines.Phase.TheVariants as phase;
 ghost use Rattle.scenario_run.specs.Ending.{GoesOnToEnd, IsClosedAtEnd, IsStill};
 
-use command_input::Said;
 use command_refusals::Refusal;
 use engine_calls::settle;
 use process_disk::Rack;
@@ -30,16 +29,5 @@ pub fn settle_at_end<R: Rack + Drop, B: Resource>(engine: &mut Engine<R, B>) -> 
             Err(_) => Err(Refusal::DiskFault),
         },
         Err(_) => Err(Refusal::DiskFault),
-    }
-}
-
-/// What there is to say, once the last call of the rack was made.
-pub fn said_at_end(found: Result<Said, Refusal>, end: Result<(), Refusal>) -> Result<Said, Refusal>
-    ensures ok { OnOk end (result ≡ found) }
-    ensures err { IfErr end (λ r. result ≡ Err r) }
-{
-    match end {
-        Ok(()) => found,
-        Err(refusal) => Err(refusal),
     }
 }

@@ -9,11 +9,10 @@ use Rattle.command_input.specs.FilesLeft.{files}
 use Rattle.engine_calls.specs.GateAnswers.{AskedGate}
 use Rattle.process_top.specs.Said.{Says}
 use Rattle.process_top.specs.Audit.{IsHistoryAuditDue}
-use Rattle.process_top.specs.Bulk.{IsBulkDue}
 use Rattle.process_top.specs.Restart.{IsRestartDue}
 use Rattle.process_top.specs.Worlds.{output}
 use Rattle.process_top.proofs.GatesAsked.{first_asked}
-use Rattle.process_top.proofs.Saying.{bulk_says, init_says, replay_says, restart_says, says_untouched, serve_says, session_says}
+use Rattle.process_top.proofs.Saying.{init_says, replay_says, restart_says, says_untouched, serve_says, session_says}
 use Rattle.process_top.proofs.door.done.Goals as goal
 
 pub returns-in-Init-clause-due : goal.returns-in-Init-clause-due
@@ -65,26 +64,6 @@ returns-in-Restart-clause-values g c =
     rw c.unsaid-in-Restart.ensures
     (λ asks. IfOk-weaker c.restart.result.found (λ s. s.status ≡ Done → Told (g.R.Rack.disk c.args.parts.rack) → have) (λ s. s.status ≡ Done → Told (g.R.Rack.disk parts.rack) → have)
     (λ s has done told. has done (sym c.restart.ensures.left.tells ∙ told)) c.restart.ensures.values)
-
-pub returns-in-Bulk-clause-due : goal.returns-in-Bulk-clause-due
-returns-in-Bulk-clause-due g c =
-    let gates = c.args.gates.now.items in
-    let gate = c.index_mut-in-Bulk.result.now in
-    let first : gate ≡ slice_index_or gates 0 gate = c.index_mut-in-Bulk.ensures.value in
-    let found = c.bulk.result.found in
-    let left = files g.R.Rack c.bulk.result.parts.rack in
-    let number = c.in-Bulk.number in
-    let count = c.in-Bulk.count in
-    rw c.in-Bulk.is
-    (rw c.unsaid-in-Bulk.ensures (
-      subst (λ (asked : AskedGate). Says (IsBulkDue asked number count (files g.R.Rack c.args.parts.rack) left) found)
-          (sym (first_asked g.G.Gate gates gate c.bulk.new.gate (omega (arith, c.requires.gates)) first))
-          (bulk_says _ number count (files g.R.Rack c.args.parts.rack) left found c.bulk.ensures.due),
-      refl,
-    ))
-
-pub returns-in-Bulk-clause-worked : goal.returns-in-Bulk-clause-worked
-returns-in-Bulk-clause-worked g c = rw c.in-Bulk.is (rw c.unsaid-in-Bulk.ensures c.bulk.ensures.complete)
 
 pub returns-in-Replay-clause-due : goal.returns-in-Replay-clause-due
 returns-in-Replay-clause-due g c =
