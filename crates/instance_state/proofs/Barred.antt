@@ -1,5 +1,6 @@
 -- The way on behind a step that isn't tried again: ways up to it are passed over.
-use Rattle.std.proofs.Common.{◌≡◌, ⊎_elim, subst, ℕ, zero, suc, ◌+◌, ◌-◌, ◌<◌, ◌≤◌, max, Bool, true, false, not, cond, if◌then◌else◌, ◌||◌, List, [], ◌∷◌, ◌++◌, length, take, drop, filter, Option, Some, None, refl, sym, ap, ◌∙◌, arith, append-nil, append_assoc}
+use Rattle.std.proofs.Common.{◌≡◌, ⊎_elim, subst, ℕ, zero, suc, ◌+◌, ◌-◌, ◌<◌, ◌≤◌, max, Bool, true, false, not, cond, if◌then◌else◌, ◌||◌, List, [], ◌∷◌, ◌++◌, length, take, drop, filter, Option, Some, None, refl, sym, ap, ◌∙◌, arith, append-nil, append_assoc, get_or}
+use Rattle.std.proofs.Math.Seq.{take-suc}
 use Rattle.std.specs.List.{list_any}
 use Rattle.std.specs.Option.{IfSome}
 use Rattle.std.proofs.lemmas.Bool.{cases_lt}
@@ -31,14 +32,12 @@ use Rattle.instance_state.proofs.States.{same_state}
 
 -- What is kept for a way has all that is fixed.
 
+none_taken : (xs : List ℕ) → take 0 xs ≡ []
+none_taken [] = refl
+none_taken (x ∷ xs) = refl
+
 take_less : (j k : ℕ) (xs : List ℕ) → j ≤ k → take j (take k xs) ≡ take j xs
-take_less zero k [] le = take_nothing k
-  where
-    take_nothing : (k : ℕ) → take 0 (take k []) ≡ take 0 []
-    take_nothing zero = refl
-    take_nothing (suc k) = refl
-take_less zero zero (x ∷ xs) le = refl
-take_less zero (suc k) (x ∷ xs) le = refl
+take_less zero k xs le = none_taken (take k xs) ∙ sym (none_taken xs)
 take_less (suc j) zero xs le = absurd (omega arith)
 take_less (suc j) (suc k) [] le = refl
 take_less (suc j) (suc k) (x ∷ xs) le = ap (λ ys. x ∷ ys) (take_less j k xs (omega arith))
@@ -182,19 +181,19 @@ done_low t tree (Some b) bound less =
 -- The steps of the net of some acts are among those that they did.
 net_low : (bound : ℕ) (es : List Entry) → above (steps_done es) ≤ bound → Each (λ d. d < bound) (steps_of (net_acts es))
 net_low bound [] le = tt
-net_low bound (e ∷ es) le = by_undo e.undo refl
+net_low bound (e ∷ es) le = by_undo (λ rest. net_low bound es rest) e.undo refl
   where
-    by_back : e.undo ≡ false → above (steps_done es) ≤ bound → e.step < bound → (t : Bool) → (e.undo || list_any (λ f. takes_back f e) es) ≡ t → Each (λ d. d < bound) (steps_of (net_acts (e ∷ es)))
-    by_back forward rest lt true is = subst (λ t. Each (λ d. d < bound) (steps_of (if t then net_acts es else e ∷ net_acts es))) (sym is) (net_low bound es rest)
-    by_back forward rest lt false is = subst (λ t. Each (λ d. d < bound) (steps_of (if t then net_acts es else e ∷ net_acts es))) (sym is) (lt, net_low bound es rest)
+    by_back : (above (steps_done es) ≤ bound → Each (λ d. d < bound) (steps_of (net_acts es))) → e.undo ≡ false → above (steps_done es) ≤ bound → e.step < bound → (t : Bool) → (e.undo || list_any (λ f. takes_back f e) es) ≡ t → Each (λ d. d < bound) (steps_of (net_acts (e ∷ es)))
+    by_back low forward rest lt true is = subst (λ t. Each (λ d. d < bound) (steps_of (if t then net_acts es else e ∷ net_acts es))) (sym is) (low rest)
+    by_back low forward rest lt false is = subst (λ t. Each (λ d. d < bound) (steps_of (if t then net_acts es else e ∷ net_acts es))) (sym is) (lt, low rest)
 
-    by_undo : (u : Bool) → e.undo ≡ u → Each (λ d. d < bound) (steps_of (net_acts (e ∷ es)))
-    by_undo true is =
+    by_undo : (above (steps_done es) ≤ bound → Each (λ d. d < bound) (steps_of (net_acts es))) → (u : Bool) → e.undo ≡ u → Each (λ d. d < bound) (steps_of (net_acts (e ∷ es)))
+    by_undo low true is =
         subst (λ u. Each (λ d. d < bound) (steps_of (if u || list_any (λ f. takes_back f e) es then net_acts es else e ∷ net_acts es))) (sym is)
-        (net_low bound es (subst (λ u. above (steps_of (cond (not u) (e ∷ filter (λ f. not f.undo) es) (filter (λ f. not f.undo) es))) ≤ bound) is le))
-    by_undo false is =
+        (low (subst (λ u. above (steps_of (cond (not u) (e ∷ filter (λ f. not f.undo) es) (filter (λ f. not f.undo) es))) ≤ bound) is le))
+    by_undo low false is =
         let all : above (e.step ∷ steps_done es) ≤ bound = subst (λ u. above (steps_of (cond (not u) (e ∷ filter (λ f. not f.undo) es) (filter (λ f. not f.undo) es))) ≤ bound) is le in
-        by_back is (omega arith) (omega arith) (e.undo || list_any (λ f. takes_back f e) es) refl
+        by_back low is (omega arith) (omega arith) (e.undo || list_any (λ f. takes_back f e) es) refl
 
 -- so where a process stands after these acts, its last step is below its bound
 pub last_low : (c : Course) (es : List Entry) (more : List ℕ) (s : Standing) → done_to c.shape s.last ≡ steps_of (net_acts es) → s.onward ≡ above (steps_done es ++ more) → IfSome s.last (λ b. b < s.onward)
@@ -236,6 +235,14 @@ barred_next c acts refused s next b has keeps state = record {
       ∙ ((let one = above-append (steps_done acts ++ refused) (b ∷ []) in omega arith) ∙ ap above (append_assoc (steps_done acts) refused (b ∷ []))))
       (ap (λ (p : ProcessState). p.progress.begun) has.state) (ap (λ (p : ProcessState). p.refused) has.state);
 }
+
+-- the next refused step of a list, at place n
+pub barred_passed : (c : Course) (acts : List Entry) (refused : List ℕ) (n d : ℕ) (s next : Standing) → n < length refused → HasBarred c acts (take n refused) s → Keeps c.shape next
+    → state_of c.shape next ≡ record { progress = past (progress_of c.shape s) (get_or refused n d); refused = s.refused } → HasBarred c acts (take (n + 1) refused) next
+barred_passed c acts refused n d s next lt has keeps state =
+    let one : suc n ≡ n + 1 = omega arith in
+    subst (λ k. HasBarred c acts (take k refused) next) one
+    (subst (λ l. HasBarred c acts l next) (sym (take-suc refused n d lt)) (barred_next c acts (take n refused) s next (get_or refused n d) has keeps state))
 
 -- and where it has begun to complete
 pub marked_from : (c : Course) (acts : List Entry) (refused : List ℕ) (s next : Standing) (t : Bool) → HasBarred c acts refused s → next.last ≡ s.last → next.onward ≡ s.onward → next.begun ≡ t → next.refused ≡ s.refused
