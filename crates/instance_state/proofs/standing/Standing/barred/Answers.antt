@@ -1,4 +1,4 @@
-use Rattle.std.proofs.Common.{◌≡◌, ◌∙◌, ◌+◌, max, ap, refl, sym, arith}
+use Rattle.std.proofs.Common.{◌≡◌, ◌∙◌, ◌+◌, max, ap, refl, arith}
 use Rattle.instance_state.specs.Rows.{done_to, way_from}
 use Rattle.instance_state.proofs.States.{same_state}
 use Rattle.instance_state.proofs.standing.Standing.barred.Goals as goal
