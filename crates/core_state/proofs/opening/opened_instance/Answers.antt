@@ -1,4 +1,4 @@
-use Rattle.std.proofs.Common.{◌≡◌, ◌∙◌, ℕ, Bool, List, true, Some, None, filter, map, eqb, if◌then◌else◌, ap, sym}
+use Rattle.std.proofs.Common.{◌≡◌, ◌∙◌, List, true, Some, None, filter, map, eqb, if◌then◌else◌, ap, sym}
 use Rattle.schedule_model.specs.declared.event.Event.{Event}
 use Rattle.schedule_model.specs.declared.marks.RefusedStep.{RefusedStep}
 use Rattle.schedule_model.specs.Course.{Course, course, courses_of}
@@ -19,12 +19,12 @@ returns c =
     let cs = courses_of h.plans in
     let es = of_process i (acts h.events) in
     let rs = refused_before (opening_moment o) i in
-    let own : c.deref-acts.result.now ≡ es = c.deref-acts.ensures.value ∙ (c.in_ok-acts.ensures ∙ ap (λ (xs : List Event). of_process i (acts xs)) c.as_slice-acts.ensures) in
-    let refused : c.deref-refused.result.now ≡ rs =
-    c.deref-refused.ensures.value ∙ (c.in_ok-refused.ensures ∙ ap (λ (xs : List RefusedStep). map (λ (r : RefusedStep). r.step) (filter (λ (r : RefusedStep). eqb r.process i) xs)) c.as_slice-refused.ensures) in
+    let own : c.deref.result.now ≡ es = c.deref.ensures.value ∙ (c.in_ok-acts.ensures ∙ ap (λ (xs : List Event). of_process i (acts xs)) c.as_slice.ensures) in
+    let refused : c.deref-2.result.now ≡ rs =
+    c.deref-2.ensures.value ∙ (c.in_ok-refused.ensures ∙ ap (λ (xs : List RefusedStep). map (λ (r : RefusedStep). r.step) (filter (λ (r : RefusedStep). eqb r.process i) xs)) c.as_slice-2.ensures) in
     let active' : is_active h.events i ≡ true = sym c.active.ensures ∙ c.if-not-active.false in
     ap Some (c.in_ok-replay.ensures
-    ∙ (ap (λ xs. opened_with c.args.plan.now xs c.deref-refused.result.now c.args.begun) own
+    ∙ (ap (λ xs. opened_with c.args.plan.now xs c.deref-2.result.now c.args.begun) own
     ∙ (ap (λ xs. opened_with c.args.plan.now es xs c.args.begun) refused
     ∙ (ap (λ b. opened_with c.args.plan.now es rs b) c.requires.begun
     ∙ (ap (λ (x : Course). record { course = x; state = marked_state x es rs (has_begun (opening_moment o) i) }) (sym c.requires.course)
