@@ -25,7 +25,7 @@ module _ (c : CoreState) (core : IsCore c) where
   pub all_active : (n : ℕ) → n ≡ length c.plans → filter (is_active (history_of c)) (numbers_from 1 n) ≡ active (history_of c)
   all_active n all =
       let h = history_of c in
-      let own = run-own_order (relation c) c.plans core.session.good (machine_of c) refl core.session.legal core.session.run in
+      let own = run-own_order (relation c) c.plans core.session.good (machine_of c) refl core.session.legal core.session.marks core.session.run in
       ap (λ k. filter (is_active h) (numbers_from 1 k)) (all ∙ core.session.one_each)
       ∙ (ap (filter (is_active h)) (sym (starts_numbered (courses_in c) h own.legal))
       ∙ filter-agree (is_active h) (λ i. not (is_in i (ends h))) (starts h) (λ i among. ap (λ t. t && not (is_in i (ends h))) (is_in-among i (starts h) among)))

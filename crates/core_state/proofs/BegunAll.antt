@@ -13,7 +13,7 @@ use Rattle.schedule_model.specs.Histories.{active, ends, is_active, is_in, net, 
 use Rattle.schedule_model.specs.Holdings.{active_net}
 use Rattle.schedule_model.proofs.Active.{is_active-is_in}
 use Rattle.machine_model.specs.declared.began.Began.{Began}
-use Rattle.machine_model.specs.declared.began.Cause.{Cause}
+use Rattle.schedule_model.specs.declared.marks.Cause.{Cause}
 use Rattle.machine_model.specs.declared.kept.Kept.{Kept}
 use Rattle.machine_model.specs.Moment.{Beginning, Moment, beginning_of, has_begun}
 use Rattle.machine_model.specs.PieceLaws.{LeavesPieceOf, piece_ended, state_by_piece}

@@ -5,7 +5,7 @@ use Rattle.process_tree.specs.Order.{Each}
 use Rattle.process_tree.specs.Recovery.{forward}
 use Rattle.machine_model.specs.ProcessState.{ProcessState, complete_unless_on, completing, next_piece, past, was_refused}
 use Rattle.machine_model.specs.Progress.{is_only_try, way_on}
-use Rattle.machine_model.specs.declared.began.Cause.{Cause}
+use Rattle.schedule_model.specs.declared.marks.Cause.{Cause}
 use Rattle.instance_state.specs.Instances.{InstanceState}
 use Rattle.hold_tables.specs.Tables.{Tables, is_open}
 use Rattle.hold_tables.specs.Changes.{changed, with_first_reserved, with_pending, with_running}

@@ -10,8 +10,8 @@ use Rattle.schedule_model.specs.declared.event.Event.{Event}
 use Rattle.schedule_model.proofs.Active.{is_active-is_in}
 use Rattle.schedule_model.proofs.Starts.{active-rising}
 use Rattle.machine_model.specs.declared.began.Began.{Began}
-use Rattle.machine_model.specs.declared.began.Cause.{Cause}
-use Rattle.machine_model.specs.declared.began.Cause.TheVariants.{Restart as Restarted}
+use Rattle.schedule_model.specs.declared.marks.Cause.{Cause}
+use Rattle.schedule_model.specs.declared.marks.Cause.TheVariants.{Restart as Restarted}
 use Rattle.machine_model.specs.declared.kept.Kept.TheVariants.{Restart}
 use Rattle.machine_model.specs.Moment.{Beginning, Moment, beginning_of, has_begun, noted}
 use Rattle.machine_model.specs.Advance.{advance}
@@ -33,7 +33,7 @@ use Rattle.core_state.proofs.StoodRows.{Apart}
 -- the active processes are all different
 pub active_apart : (c : CoreState) → IsCore c → Apart (active (moment_of c).events)
 active_apart c core =
-    let legal : IsTrue (is_legal no_conflict (courses_in c) (moment_of c).events) = (run-own_order (relation c) c.plans core.session.good (machine_of c) refl core.session.legal core.session.run).legal in
+    let legal : IsTrue (is_legal no_conflict (courses_in c) (moment_of c).events) = (run-own_order (relation c) c.plans core.session.good (machine_of c) refl core.session.legal core.session.marks core.session.run).legal in
     rising_apart (active (moment_of c).events) (active-rising no_conflict (courses_in c) (moment_of c).events legal)
 
 -- who has begun has a beginning

@@ -4,7 +4,7 @@ use Rattle.std.proofs.lemmas.Bool.{cases_lt, eqb-false, eqb-true, false≢true, 
 use Rattle.process_tree.specs.declared.entry.Entry.{Entry}
 use Rattle.process_tree.specs.Conflicts.{Table}
 use Rattle.schedule_model.specs.Histories.{is_in}
-use Rattle.machine_model.specs.declared.began.Cause.{Cause}
+use Rattle.schedule_model.specs.declared.marks.Cause.{Cause}
 use Rattle.hold_tables.specs.Tables.{OpenProcess, Tables}
 use Rattle.core_state.specs.Beginnings.{begun_row, cause_if, row_with, tables_begun, tables_with}
 use Rattle.core_state.specs.Seats.{SeatState, no_seat}

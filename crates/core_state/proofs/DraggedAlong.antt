@@ -13,8 +13,8 @@ use Rattle.schedule_model.specs.Course.{Course, course_of, shape}
 use Rattle.schedule_model.specs.Histories.{active, ends, is_active, is_in, net, net_of, net_steps, of_process, starts, steps_of}
 use Rattle.schedule_model.specs.Holdings.{Hold, active_net}
 use Rattle.schedule_model.proofs.Active.{is_active-is_in, is_in-filter}
-use Rattle.machine_model.specs.declared.began.Cause.{Cause}
-use Rattle.machine_model.specs.declared.began.Cause.TheVariants.{Cascade}
+use Rattle.schedule_model.specs.declared.marks.Cause.{Cause}
+use Rattle.schedule_model.specs.declared.marks.Cause.TheVariants.{Cascade}
 use Rattle.machine_model.specs.declared.kept.Kept.{Kept}
 use Rattle.machine_model.specs.CauseLaws.{IsDragged}
 use Rattle.machine_model.specs.Moment.{Beginning, Moment, beginning_of, has_begun}
@@ -46,7 +46,7 @@ use Rattle.core_state.specs.OpenTables.{planned_of, row_of, tables_of}
 use Rattle.core_state.specs.Seats.{SeatState, Stands, seat_of, seats_of}
 use Rattle.core_state.proofs.BegunAll.{BeginsNow, Goes, Tells, begun_stands, goes}
 use Rattle.core_state.proofs.BegunRestart.{active_apart, began_is, event_is, no_beginning, some_beginning}
-use Rattle.core_state.proofs.BegunStarted.{dragged_active}
+use Rattle.machine_model.proofs.Started.{dragged_active}
 use Rattle.core_state.proofs.HandStands.{with_event}
 use Rattle.core_state.proofs.MayStand.{numbered_map}
 use Rattle.core_state.proofs.SeatFacts.{has_plan}

@@ -82,7 +82,7 @@ module _ (c : CoreState) (core : IsCore c) (d : Piece) (found : piece_of c.kept 
   begun_same j = ap (λ o. has_begun o j) moved
 
   pub own : InOwnOrder (relation c) c.plans core.session.good (moment_of c)
-  own = run-own_order (relation c) c.plans core.session.good (machine_of c) refl core.session.legal core.session.run
+  own = run-own_order (relation c) c.plans core.session.good (machine_of c) refl core.session.legal core.session.marks core.session.run
 
   facts : OutPiece (relation c) cs m d.number
   facts = out_piece (relation c) cs m d.number own.order own.active out

@@ -94,7 +94,7 @@ settled_parts ss p (Act e ∷ h) same = by_seat (has_active_seat ss e.process) r
 
 module _ (c : CoreState) (core : IsCore c) (ss : List SeatState) (seats : ss ≡ seats_of (courses_in c) (moment_of c)) where
   own_legal : IsTrue (is_legal no_conflict (courses_in c) (history_of c))
-  own_legal = (run-own_order (relation c) c.plans core.session.good (machine_of c) refl core.session.legal core.session.run).legal
+  own_legal = (run-own_order (relation c) c.plans core.session.good (machine_of c) refl core.session.legal core.session.marks core.session.run).legal
 
   some_if : {X : Type 0} (t : Bool) (x : X) → is_some (if t then Some x else None) ≡ t
   some_if true x = refl

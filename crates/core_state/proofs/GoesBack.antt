@@ -8,8 +8,8 @@ use Rattle.schedule_model.specs.Course.{Course, shape}
 use Rattle.schedule_model.specs.Histories.{is_active, net_steps}
 use Rattle.schedule_model.proofs.Active.{is_active-is_in}
 use Rattle.machine_model.specs.declared.began.Began.{Began}
-use Rattle.machine_model.specs.declared.began.Cause.{Cause}
-use Rattle.machine_model.specs.declared.began.Cause.TheVariants.{Abort as WasAborted, Victim as WasVictim}
+use Rattle.schedule_model.specs.declared.marks.Cause.{Cause}
+use Rattle.schedule_model.specs.declared.marks.Cause.TheVariants.{Abort as WasAborted, Victim as WasVictim}
 use Rattle.machine_model.specs.declared.kept.Kept.{Kept}
 use Rattle.machine_model.specs.declared.kept.Kept.TheVariants.{Abort, Victim}
 use Rattle.machine_model.specs.CauseLaws.{GoesBackBy, HasCause}

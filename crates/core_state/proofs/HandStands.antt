@@ -133,7 +133,7 @@ module _ (c : CoreState) (core : IsCore c) (apart : Apart (active (moment_of c).
 module _ (c : CoreState) (d : Piece) (may : may_be_kept (relation c) (courses_in c) (moment_of c) (Hand d.number d.process d.step d.work) ≡ true)
     (h : List Event) (ss : List SeatState) (ts : Tables) (stands : Stands c h ss ts) where
   legal : IsTrue (is_legal no_conflict (courses_in c) (moment_of c).events)
-  legal = (run-own_order (relation c) c.plans stands.core.session.good (machine_of c) refl stands.core.session.legal stands.core.session.run).legal
+  legal = (run-own_order (relation c) c.plans stands.core.session.good (machine_of c) refl stands.core.session.legal stands.core.session.marks stands.core.session.run).legal
 
   pub apart_now : Apart (active (moment_of c).events)
   apart_now = rising_apart (active (moment_of c).events) (active-rising no_conflict (courses_in c) (moment_of c).events legal)

@@ -7,8 +7,8 @@ use Rattle.schedule_model.specs.Course.{Course}
 use Rattle.schedule_model.specs.Histories.{active, is_active}
 use Rattle.machine_model.specs.declared.kept.Kept.{Kept}
 use Rattle.machine_model.specs.declared.kept.Kept.TheVariants.{Start, Hand, Effect, Refuse, Abort, Victim, Restart}
-use Rattle.machine_model.specs.declared.began.Cause.{Cause}
-use Rattle.machine_model.specs.declared.began.Cause.TheVariants.{Abort as WasAborted, Victim as WasVictim, Restart as Restarted}
+use Rattle.schedule_model.specs.declared.marks.Cause.{Cause}
+use Rattle.schedule_model.specs.declared.marks.Cause.TheVariants.{Abort as WasAborted, Victim as WasVictim, Restart as Restarted}
 use Rattle.machine_model.specs.Moment.{Beginning, Moment, Piece, all_begin, begins, begins_now, happened, has_begun, noted, out_after, without}
 use Rattle.machine_model.specs.Pieces.{hands, piece_of, runs}
 use Rattle.machine_model.specs.State.{is_exhausted, victim_of}

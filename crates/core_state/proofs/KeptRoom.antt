@@ -5,7 +5,7 @@ use Rattle.process_tree.specs.Conflicts.{Table}
 use Rattle.schedule_model.specs.declared.event.Event.{Event}
 use Rattle.schedule_model.specs.Histories.{ends, is_in, starts}
 use Rattle.machine_model.specs.declared.kept.Kept.{Kept}
-use Rattle.machine_model.specs.Moment.{Moment}
+use Rattle.machine_model.specs.Moment.{Moment, Opening}
 use Rattle.machine_model.specs.Runs.{may_be_kept}
 use Rattle.machine_model.proofs.CoursesRuns.{started_by, starts-after}
 use Rattle.hold_tables.specs.Tables.{Tables}
@@ -24,7 +24,7 @@ module _ (c : CoreState) (core : IsCore c) (k : Kept) (nobody : started_by k ≡
   -- nobody started, so the room stays
   pub room_stays : room_of (with_event c k) ≡ room_of c
   room_stays =
-      ap (λ is. sum_by (λ i. kept_for (course (courses_in c) i)) (filter (λ i. not (is_in i (ends c.opening))) is))
+      ap (λ is. sum_by (λ i. kept_for (course (courses_in c) i)) (filter (λ i. not (is_in i (ends c.opening.history))) is))
       (ap (λ (o : Moment). starts o.events) (moment_kept c core k nobody may)
       ∙ (starts-after (relation c) (courses_in c) (moment_of c) k ∙ (ap (λ is. starts (moment_of c).events ++ is) nobody ∙ append-nil (starts (moment_of c).events))))
 
@@ -65,7 +65,7 @@ pub opening_stays : (n : ℕ) (h : List Event) (e : Event) → n ≤ length h �
 opening_stays n h e few = take-append-le n h (e ∷ []) few
 
 -- what a core is seen as, with one kept event more
-pub view_grown : (t u : Table) (plans : List Plan) (g h : List Event) (js ks : List Kept) (served : ℕ) (k : Kept) (c : CoreState)
+pub view_grown : (t u : Table) (plans : List Plan) (g h : Opening) (js ks : List Kept) (served : ℕ) (k : Kept) (c : CoreState)
     → record { conflicts = u; plans = plans; opening = h; kept = ks; served = served } ≡ c → t ≡ u → g ≡ h → js ≡ ks ++ k ∷ []
     → record { conflicts = t; plans = plans; opening = g; kept = js; served = served } ≡ with_event c k
 view_grown t u plans g h js ks served k c is tables opening kept =

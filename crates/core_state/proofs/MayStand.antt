@@ -30,7 +30,8 @@ use Rattle.machine_model.proofs.OpenHoldings.{filter-kept}
 use Rattle.machine_model.proofs.TidyMoments.{every}
 use Rattle.hold_tables.specs.Tables.{OpenProcess, has_number, is_open, kept_of, numbered}
 use Rattle.hold_tables.specs.Changes.{can_run, is_new_step, undoes_last}
-use Rattle.core_state.specs.Cores.{IsCore, opened_on}
+use Rattle.machine_model.specs.Moment.{Opening}
+use Rattle.core_state.specs.Cores.{IsCore, opened_at}
 use Rattle.core_state.specs.OpenTables.{planned_of, row_at, stood, tables_at}
 use Rattle.core_state.proofs.LastSteps.{known_op}
 use Rattle.core_state.proofs.NetEntries.{ComesBehind, branch_is_net, step_is_new, step_is_one}
@@ -66,8 +67,11 @@ among_at [] n d within = absurd (omega arith)
 among_at (x ∷ xs) zero d within = inl refl
 among_at (x ∷ xs) (suc n) d within = inr (among_at xs n d (omega arith))
 
-module _ (conflicts : Table) (plans : List Plan) (h : List Event) (core : IsCore (opened_on conflicts plans h)) (es : List Entry) (e : Entry) (comes : ComesBehind (courses_of plans) es e)
-    (active' : is_active h e.process ≡ true) where
+module _ (conflicts : Table) (plans : List Plan) (o : Opening) (core : IsCore (opened_at conflicts plans o)) (es : List Entry) (e : Entry) (comes : ComesBehind (courses_of plans) es e)
+    (active' : is_active o.history e.process ≡ true) where
+  abbrev h : List Event
+  h = o.history
+
   abbrev cs : List Course
   cs = courses_of plans
 

@@ -81,7 +81,7 @@ module _ (c : CoreState) (core : IsCore c) (i : ℕ) (active' : is_active (momen
   w = net_steps (moment_of c).events i
 
   legal : IsTrue (is_legal no_conflict (courses_in c) (moment_of c).events)
-  legal = (run-own_order (relation c) c.plans core.session.good (machine_of c) refl core.session.legal core.session.run).legal
+  legal = (run-own_order (relation c) c.plans core.session.good (machine_of c) refl core.session.legal core.session.marks core.session.run).legal
 
   abbrev Keeps : Task → Type 0
   Keeps t = keeps_order cs m.events (event_by cs i t.step t.work) ≡ true

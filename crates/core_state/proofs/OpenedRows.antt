@@ -22,7 +22,8 @@ use Rattle.schedule_model.proofs.Members.{contains-from_among, filter-agree, is_
 use Rattle.schedule_model.proofs.NoConflict.{legal-from_own_order, own_order-legal}
 use Rattle.hold_tables.specs.Changes.{opened}
 use Rattle.hold_tables.specs.Tables.{OpenProcess, Tables, has_number, is_open}
-use Rattle.core_state.specs.Cores.{IsCore, opened_on}
+use Rattle.machine_model.specs.Moment.{Opening}
+use Rattle.core_state.specs.Cores.{IsCore, opened_at}
 use Rattle.core_state.specs.OpenTables.{row_at, tables_at}
 use Rattle.machine_model.proofs.RunningNext.{flipped}
 use Rattle.core_state.proofs.MayStand.{among_at}
@@ -46,8 +47,9 @@ module _ (courses : List Course) where
   starts_numbered h legal = by_legal no_conflict courses (λ g. starts g ≡ numbers_from 1 (length (starts g))) (λ g e before may are. numbered_more g e may are) refl h legal
 
 -- the active ones among all numbers
-pub active_numbers : (conflicts : Table) (plans : List Plan) (h : List Event) → IsCore (opened_on conflicts plans h) → filter (is_active h) (numbers_from 1 (length plans)) ≡ active h
-active_numbers conflicts plans h core =
+pub active_numbers : (conflicts : Table) (plans : List Plan) (o : Opening) → IsCore (opened_at conflicts plans o) → filter (is_active o.history) (numbers_from 1 (length plans)) ≡ active o.history
+active_numbers conflicts plans o core =
+    let h = o.history in
     let cs = courses_of plans in
     let are = starts_numbered cs h (legal-from_own_order cs h (own_order-legal cs (do_conflict conflicts) h core.session.legal)) in
     ap (λ n. filter (is_active h) (numbers_from 1 n)) core.session.one_each
@@ -99,7 +101,10 @@ module _ (conflicts : Table) (plans : List Plan) (h : List Event) (n : ℕ) wher
   passed_more is = ap (λ is'. tables_at conflicts cs is' []) (sym (active_more false is ∙ append-nil before))
 
 -- the plan at a place
-module _ (conflicts : Table) (plans : List Plan) (h : List Event) (core : IsCore (opened_on conflicts plans h)) (n : ℕ) (within : n < length plans) where
+module _ (conflicts : Table) (plans : List Plan) (o : Opening) (core : IsCore (opened_at conflicts plans o)) (n : ℕ) (within : n < length plans) where
+  abbrev h : List Event
+  h = o.history
+
   module _ (ps : List Plan) (same : ps ≡ plans) (p : Plan) (its : p ≡ slice_index_or ps n p) (holds : Tables) (are : holds ≡ tables_at conflicts (courses_of plans) (filter (is_active h) (numbers_from 1 n)) []) where
     plan_is : slice_index_or plans n p ≡ p
     plan_is = sym (its ∙ ap (λ qs. slice_index_or qs n p) same)

@@ -17,10 +17,10 @@ use Rattle.schedule_model.specs.Recovery.{backward_entries}
 use Rattle.schedule_model.proofs.Appends.{acts-append}
 use Rattle.schedule_model.proofs.Induction.{by_own_order}
 use Rattle.schedule_model.proofs.Snoc.{of_process-append}
-use Rattle.machine_model.specs.Moment.{opening_moment}
+use Rattle.machine_model.specs.Moment.{Opening, has_begun, on_history, opening_moment}
 use Rattle.machine_model.specs.Progress.{above}
-use Rattle.machine_model.specs.ProcessState.{opening_state}
-use Rattle.machine_model.specs.State.{process_state}
+use Rattle.machine_model.specs.ProcessState.{marked_state, opening_state}
+use Rattle.machine_model.specs.State.{process_state, refused_before}
 use Rattle.machine_model.proofs.RunningNext.{flipped}
 use Rattle.instance_state.specs.OwnActs.{are_in_own_order, each_follows, goes_further, may_follow, steps_done}
 use Rattle.core_state.specs.Seats.{AreInOwnOrder}
@@ -75,9 +75,19 @@ done_own h i = ap steps_of (filters_swap (λ (e : Entry). eqb e.process i) (λ e
 pub net_steps_own : (h : List Event) (i : ℕ) → net_steps h i ≡ steps_of (net_acts (of_process i (acts h)))
 net_steps_own h i = ap steps_of (net_own i (acts h))
 
--- a process opens as its acts say
-pub opens_by_acts : (courses : List Course) (h : List Event) (i : ℕ) → process_state courses (opening_moment h) i ≡ opening_state (course courses i) (of_process i (acts h))
-opens_by_acts courses h i =
+-- a process opens as its acts and what was refused of it say, and has begun to complete or not
+pub opens_by_acts : (courses : List Course) (o : Opening) (i : ℕ) → process_state courses (opening_moment o) i
+    ≡ marked_state (course courses i) (of_process i (acts o.history)) (refused_before (opening_moment o) i) (has_begun (opening_moment o) i)
+opens_by_acts courses o i =
+    let h = o.history in
+    let rs = refused_before (opening_moment o) i in
+    ap (λ (w : List ℕ). record { progress = record { shape = shape courses i; net = w; onward = above (done_steps h i ++ (rs ++ [])); begun = has_begun (opening_moment o) i }; refused = 0 }) (net_steps_own h i)
+    ∙ ap (λ (ds : List ℕ). record { progress = record { shape = shape courses i; net = steps_of (net_acts (of_process i (acts h))); onward = above ds; begun = has_begun (opening_moment o) i }; refused = 0 })
+    (ap (λ xs. done_steps h i ++ xs) (append-nil rs) ∙ ap (λ xs. xs ++ rs) (done_own h i))
+
+-- where nothing is known but the history, as its acts say alone
+pub alone_by_acts : (courses : List Course) (h : List Event) (i : ℕ) → process_state courses (opening_moment (on_history h)) i ≡ opening_state (course courses i) (of_process i (acts h))
+alone_by_acts courses h i =
     ap (λ (w : List ℕ). record { progress = record { shape = shape courses i; net = w; onward = above (done_steps h i ++ []); begun = false }; refused = 0 }) (net_steps_own h i)
     ∙ ap (λ (ds : List ℕ). record { progress = record { shape = shape courses i; net = steps_of (net_acts (of_process i (acts h))); onward = above ds; begun = false }; refused = 0 }) (append-nil (done_steps h i) ∙ done_own h i)
 

@@ -7,7 +7,7 @@ use Rattle.process_tree.specs.Shape.{fixed_len}
 use Rattle.schedule_model.specs.Course.{Course, shape}
 use Rattle.schedule_model.specs.Histories.{is_active, net_steps}
 use Rattle.schedule_model.proofs.Active.{is_active-is_in}
-use Rattle.machine_model.specs.declared.began.Cause.TheVariants.{Refused}
+use Rattle.schedule_model.specs.declared.marks.Cause.TheVariants.{Refused}
 use Rattle.machine_model.specs.declared.kept.Kept.{Kept}
 use Rattle.machine_model.specs.declared.kept.Kept.TheVariants.{Refuse}
 use Rattle.machine_model.specs.declared.kept.Work.{Work}
@@ -33,7 +33,7 @@ use Rattle.machine_model.proofs.TidyMoments.{run-tidy}
 use Rattle.machine_model.proofs.WaysOn.{staying-least}
 use Rattle.core_state.specs.Cores.{CoreState, IsCore, courses_in, machine_of, moment_of, relation}
 use Rattle.core_state.proofs.BegunRestart.{no_beginning}
-use Rattle.core_state.proofs.BegunStarted.{after_refusal_still}
+use Rattle.machine_model.proofs.Started.{after_refusal_still}
 use Rattle.core_state.proofs.DraggedAlong.{IsMiddle}
 use Rattle.core_state.proofs.EffectRows.{listed, runs_it}
 

@@ -11,7 +11,7 @@ use Rattle.schedule_model.specs.Course.{Course, course, shape}
 use Rattle.schedule_model.specs.Histories.{is_active, net_of, net_steps}
 use Rattle.schedule_model.specs.Recovery.{owed}
 use Rattle.machine_model.specs.declared.began.Began.{Began}
-use Rattle.machine_model.specs.declared.began.Cause.TheVariants.{Refused}
+use Rattle.schedule_model.specs.declared.marks.Cause.TheVariants.{Refused}
 use Rattle.machine_model.specs.declared.kept.Kept.{Kept}
 use Rattle.machine_model.specs.declared.kept.Kept.TheVariants.{Refuse}
 use Rattle.machine_model.specs.HoldLaws.{running_by_piece}

@@ -124,7 +124,7 @@ module _ (c : CoreState) (core : IsCore c) where
   -- who started has a plan
   pub has_plan : (i : ℕ) → is_in i (starts (moment_of c).events) ≡ true → (1 ≤ i) × (i ≤ length c.plans)
   has_plan i started =
-      let own = run-own_order (relation c) c.plans core.session.good (machine_of c) refl core.session.legal core.session.run in
+      let own = run-own_order (relation c) c.plans core.session.good (machine_of c) refl core.session.legal core.session.marks core.session.run in
       let bounds = legal-numbered no_conflict (courses_in c) (moment_of c).events own.legal i started in
       let each = core.session.one_each in
       let low = bounds.0 in

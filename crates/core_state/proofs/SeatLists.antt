@@ -43,7 +43,7 @@ module _ {X : Type 0} (f g : ℕ → X) where
 pub numbers_started : (c : CoreState) → IsCore c → Each (λ k. is_in k (starts (moment_of c).events) ≡ true) (numbers_from 1 (length (courses_in c)))
 numbers_started c core =
     let h = (moment_of c).events in
-    let own = run-own_order (relation c) c.plans core.session.good (machine_of c) refl core.session.legal core.session.run in
+    let own = run-own_order (relation c) c.plans core.session.good (machine_of c) refl core.session.legal core.session.marks core.session.run in
     let many : length (courses_in c) ≡ length (starts h) = length-map c.plans course_of ∙ core.session.one_each in
     subst (λ ks. Each (λ k. is_in k (starts h) ≡ true) ks) (sym (ap (numbers_from 1) many ∙ sym (starts_numbered (courses_in c) h own.legal))) (each_listed (starts h))
 

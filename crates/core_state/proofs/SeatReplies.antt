@@ -45,7 +45,7 @@ is_in_numbers a (suc n) i low high = by_place (cases_lt a i) (λ less. is_in_num
 -- and whoever has one did
 pub has_started : (c : CoreState) → IsCore c → (i : ℕ) → 1 ≤ i → i ≤ length c.plans → is_in i (starts (moment_of c).events) ≡ true
 has_started c core i low high =
-    let own = run-own_order (relation c) c.plans core.session.good (machine_of c) refl core.session.legal core.session.run in
+    let own = run-own_order (relation c) c.plans core.session.good (machine_of c) refl core.session.legal core.session.marks core.session.run in
     let each = core.session.one_each in
     ap (is_in i) (starts_numbered (courses_in c) (moment_of c).events own.legal) ∙ is_in_numbers 1 (length (starts (moment_of c).events)) i low (omega arith)
 

@@ -14,7 +14,8 @@ use Rattle.schedule_model.proofs.Active.{is_active-is_in}
 use Rattle.schedule_model.proofs.NoConflict.{legal-from_own_order, own_order-legal}
 use Rattle.hold_tables.specs.Tables.{Tables, is_open, kept_of}
 use Rattle.hold_tables.specs.Changes.{can_run}
-use Rattle.core_state.specs.Cores.{IsCore, opened_on}
+use Rattle.machine_model.specs.Moment.{Opening}
+use Rattle.core_state.specs.Cores.{IsCore, opened_at}
 use Rattle.core_state.specs.OpenTables.{stood, tables_at}
 use Rattle.core_state.proofs.MayStand.{good_plan, has_plan_at, its_operation, its_operations, its_step, kept_idle, kept_steps, may_run, open_then, passed_over, stood_next}
 use Rattle.core_state.proofs.NetEntries.{ComesBehind, net_comes}
@@ -35,23 +36,26 @@ pub record StandsHere (holds after : Tables) (plans : List Plan) (e : Entry) (p 
   pub own : e.op < operations_in holds.conflicts
   pub next : stood p e holds ≡ after
 
-module _ (conflicts : Table) (plans : List Plan) (h : List Event) (core : IsCore (opened_on conflicts plans h)) where
+module _ (conflicts : Table) (plans : List Plan) (o : Opening) (core : IsCore (opened_at conflicts plans o)) where
+  abbrev h : List Event
+  h = o.history
+
   stands_at : (es : List Entry) (e : Entry) → ComesBehind (courses_of plans) es e → is_active h e.process ≡ true → (d : Plan)
       → StandsHere (tables_at conflicts (courses_of plans) (active h) es) (tables_at conflicts (courses_of plans) (active h) (es ++ e ∷ [])) plans e (slice_index_or plans (e.process - 1) d)
   stands_at es e comes active' d = record {
-    low = (has_plan_at conflicts plans h core es e comes active').0;
-    high = (has_plan_at conflicts plans h core es e comes active').1;
-    opened = open_then conflicts plans h core es e comes active';
-    none = kept_idle conflicts plans h core es e comes active';
-    steps = kept_steps conflicts plans h core es e comes active' d;
-    step = its_step conflicts plans h core es e comes active' d;
+    low = (has_plan_at conflicts plans o core es e comes active').0;
+    high = (has_plan_at conflicts plans o core es e comes active').1;
+    opened = open_then conflicts plans o core es e comes active';
+    none = kept_idle conflicts plans o core es e comes active';
+    steps = kept_steps conflicts plans o core es e comes active' d;
+    step = its_step conflicts plans o core es e comes active' d;
     forward = comes.forward;
-    may = may_run conflicts plans h core es e comes active';
-    good = (good_plan conflicts plans h core es e comes active' d).tree;
-    operations = (good_plan conflicts plans h core es e comes active' d).operations;
-    known = its_operations conflicts plans h core es e comes active' d;
-    own = its_operation conflicts plans h core es e comes active' d;
-    next = stood_next conflicts plans h core es e comes active' d;
+    may = may_run conflicts plans o core es e comes active';
+    good = (good_plan conflicts plans o core es e comes active' d).tree;
+    operations = (good_plan conflicts plans o core es e comes active' d).operations;
+    known = its_operations conflicts plans o core es e comes active' d;
+    own = its_operation conflicts plans o core es e comes active' d;
+    next = stood_next conflicts plans o core es e comes active' d;
   }
 
   comes_in : (entries : List Entry) → entries ≡ net h → (n : ℕ) (d : Entry) → n < length entries → ComesBehind (courses_of plans) (take n entries) (get_or entries n d)
@@ -82,4 +86,4 @@ module _ (conflicts : Table) (plans : List Plan) (h : List Event) (core : IsCore
   -- its process has a plan
   pub planned_here : (entries : List Entry) → entries ≡ net h → (n : ℕ) (d : Entry) → n < length entries → is_active h (get_or entries n d).process ≡ true
       → (1 ≤ (get_or entries n d).process) × ((get_or entries n d).process ≤ length plans)
-  planned_here entries is n d within active' = has_plan_at conflicts plans h core (take n entries) (get_or entries n d) (comes_in entries is n d within) active'
+  planned_here entries is n d within active' = has_plan_at conflicts plans o core (take n entries) (get_or entries n d) (comes_in entries is n d within) active'

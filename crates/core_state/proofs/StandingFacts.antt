@@ -61,7 +61,7 @@ module _ (c : CoreState) (core : IsCore c) where
 
   numbers : numbers_from 1 (length cs) ≡ starts m.events
   numbers =
-      let own = run-own_order (relation c) c.plans core.session.good (machine_of c) refl core.session.legal core.session.run in
+      let own = run-own_order (relation c) c.plans core.session.good (machine_of c) refl core.session.legal core.session.marks core.session.run in
       let many : length cs ≡ length (starts m.events) = length-map c.plans course_of ∙ core.session.one_each in
       ap (numbers_from 1) many ∙ sym (starts_numbered cs m.events own.legal)
 

@@ -68,12 +68,12 @@ module _ (c : CoreState) (core : IsCore c) (p : Plan) where
   agree : (k : ℕ) → 1 ≤ k → k ≤ length cs → SameCourse cs ds k
   agree k low high = ap (λ xs. course xs k) (sym (take-append_seam cs (course_of p ∷ []))) ∙ course-take ds (length cs) k low high
 
-  opening_same : SameOf cs ds c.opening
+  opening_same : SameOf cs ds c.opening.history
   opening_same k is =
-      let bounds = legal-numbered (relation c) cs c.opening core.session.legal k is in
+      let bounds = legal-numbered (relation c) cs c.opening.history core.session.legal k is in
       let low = bounds.0 in
       let high = bounds.1 in
-      let few : length (starts c.opening) ≤ length (starts m.events) = starts-most cs ds (relation c) (length cs) agree (opening_moment c.opening) c.kept in
+      let few : length (starts c.opening.history) ≤ length (starts m.events) = starts-most cs ds (relation c) (length cs) agree (opening_moment c.opening) c.kept in
       let all = as_many in
       agree k (omega arith) (omega arith)
 
@@ -91,7 +91,7 @@ module _ (c : CoreState) (core : IsCore c) (p : Plan) where
   its_course = let all = as_many in let e : i - 1 ≡ length cs = omega arith in ap (λ k. slice_index_or ds k no_course) e ∙ at_seam cs (course_of p) no_course
 
   pub own : InOwnOrder (relation c) c.plans core.session.good (moment_of c)
-  own = run-own_order (relation c) c.plans core.session.good (machine_of c) refl core.session.legal core.session.run
+  own = run-own_order (relation c) c.plans core.session.good (machine_of c) refl core.session.legal core.session.marks core.session.run
 
   pub not_started : is_in (length (starts (moment_of c).events) + 1) (starts (moment_of c).events) ≡ true → ⊥
   not_started is = let bounds = legal-numbered no_conflict cs m.events own.legal i is in let high = bounds.1 in omega arith

@@ -11,6 +11,7 @@ use Rattle.process_tree.specs.Recovery.{forward}
 use Rattle.process_tree.specs.Shape.{fixed_len}
 use Rattle.process_tree.proofs.Every.{Each-weaker}
 use Rattle.schedule_model.specs.Conflict.{no_conflict}
+use Rattle.schedule_model.specs.declared.marks.RefusedStep.{RefusedStep}
 use Rattle.schedule_model.specs.Course.{Course, course, course_of, shape}
 use Rattle.schedule_model.specs.Histories.{active, acts, doing, is_active, is_in, net_acts, net_of, net_steps, of_process, starts, steps_of}
 use Rattle.schedule_model.specs.Holdings.{Hold}
@@ -21,7 +22,7 @@ use Rattle.schedule_model.proofs.Appends.{acts-append, is_in-append}
 use Rattle.schedule_model.proofs.Members.{filter-none}
 use Rattle.schedule_model.proofs.Started.{acts-started}
 use Rattle.machine_model.specs.declared.kept.Kept.TheVariants.{Start}
-use Rattle.machine_model.specs.Moment.{Beginning, Lost, Moment, Piece, RefusedStep, beginning_of, has_begun, opening_moment}
+use Rattle.machine_model.specs.Moment.{Beginning, Lost, Moment, Piece, beginning_of, has_begun, on_history, opening_moment}
 use Rattle.machine_model.specs.Pieces.{hands, is_try_of, refusals, refused_pieces, running_of}
 use Rattle.machine_model.specs.ProcessState.{opening_state}
 use Rattle.machine_model.specs.Progress.{Progress, is_only_try, next_task, same_work, staying}
@@ -30,7 +31,6 @@ use Rattle.machine_model.specs.State.{entry_of, hold_of, next_of, owed_soon, pen
 use Rattle.machine_model.proofs.Dropped.{IsLost, run-in_order}
 use Rattle.machine_model.proofs.Frames.{same_history, same_progress}
 use Rattle.machine_model.proofs.HoldSteps.{find_none}
-use Rattle.machine_model.proofs.RefusedBefore.{none-refused_before}
 use Rattle.machine_model.proofs.RefusedPieces.{refused-plain}
 use Rattle.machine_model.proofs.WaysOn.{drop_past}
 use Rattle.instance_state.specs.Instances.{InstanceState, opened}
@@ -38,8 +38,8 @@ use Rattle.hold_tables.specs.Tables.{holds_nothing}
 use Rattle.core_state.specs.Cores.{CoreState, IsCore, courses_in, machine_of, moment_of, relation}
 use Rattle.core_state.specs.OpenTables.{planned_of, row_of}
 use Rattle.core_state.specs.Seats.{SeatState, lost_by, seat_of}
-use Rattle.core_state.proofs.BegunStarted.{run-started}
-use Rattle.core_state.proofs.ProcessActs.{net_own, opens_by_acts}
+use Rattle.machine_model.proofs.Started.{run-started}
+use Rattle.core_state.proofs.ProcessActs.{net_own, alone_by_acts}
 use Rattle.core_state.proofs.StartMoments.{active_after, after_start, another, its_course, not_started, own}
 
 none_pass : {X : Type 0} (r s : X → Bool) (xs : List X) → Each (λ x. r x ≡ false) xs → filter r (filter s xs) ≡ []
@@ -75,7 +75,7 @@ module _ (c : CoreState) (core : IsCore c) (p : Plan) where
     where
       by_begun : (t : Bool) → has_begun m i ≡ t → has_begun m i ≡ false
       by_begun false is = is
-      by_begun true is = absurd (not_started c core p ((run-started (relation c) (machine_of c) core.session.run).begun i is))
+      by_begun true is = absurd (not_started c core p ((run-started (relation c) (machine_of c) core.session.marks core.session.run).begun i is))
 
   none_began : beginning_of m i ≡ None
   none_began = by_beginning (beginning_of m i) refl
@@ -92,30 +92,34 @@ module _ (c : CoreState) (core : IsCore c) (p : Plan) where
   none_lost : lost_by m i ≡ None
   none_lost = find_none (λ (l : Lost). eqb l.piece.process i) m.lost
       (Each-weaker (IsLost m) (λ l. eqb l.piece.process i ≡ false)
-      (λ l is. another c core p l.piece.process ((run-started (relation c) (machine_of c) core.session.run).begun l.piece.process (ap is_some is.begun))) m.lost (run-in_order (relation c) (machine_of c) core.session.run).lost)
+      (λ l is. another c core p l.piece.process ((run-started (relation c) (machine_of c) core.session.marks core.session.run).begun l.piece.process (ap is_some is.begun))) m.lost (run-in_order (relation c) (machine_of c) core.session.run).lost)
 
   none_refused : (r : Piece → Bool) → ((q : Piece) → eqb q.process i ≡ false → r q ≡ false) → filter r (refused_pieces after.kept) ≡ []
   none_refused r others =
       ap (filter r) (refused-plain m.kept (Start i) refl (λ x. refl))
       ∙ none_pass r _ (hands m.kept)
-      (Each-weaker (λ (q : Piece). is_in q.process (starts m.events) ≡ true) (λ q. r q ≡ false) (λ q is. others q (another c core p q.process is)) (hands m.kept) (run-started (relation c) (machine_of c) core.session.run).pieces)
+      (Each-weaker (λ (q : Piece). is_in q.process (starts m.events) ≡ true) (λ q. r q ≡ false) (λ q is. others q (another c core p q.process is)) (hands m.kept) (run-started (relation c) (machine_of c) core.session.marks core.session.run).pieces)
 
-  progress_new : progress ds after i ≡ progress ds (opening_moment after.events) i
-  progress_new = same_progress ds (opening_moment after.events) after i (same_history after.events i)
-      (ap (λ (rs : List RefusedStep). map (λ (r : RefusedStep). r.step) (filter (λ (r : RefusedStep). eqb r.process i) rs) ++ map (λ (q : Piece). q.step) (filter (λ (q : Piece). eqb q.process i && is_only_try (shape ds i) q.step q.work) (refused_pieces after.kept)))
-      (none-refused_before (relation c) (machine_of c) core.session.run)
+  none_before : filter (λ (r : RefusedStep). eqb r.process i) m.refused ≡ []
+  none_before = filter-none (λ (r : RefusedStep). eqb r.process i) m.refused
+      (λ r among. another c core p r.process ((run-started (relation c) (machine_of c) core.session.marks core.session.run).refused r among))
+
+  progress_new : progress ds after i ≡ progress ds (opening_moment (on_history after.events)) i
+  progress_new = same_progress ds (opening_moment (on_history after.events)) after i (same_history after.events i)
+      (ap (λ (rs : List RefusedStep). map (λ (r : RefusedStep). r.step) rs ++ map (λ (q : Piece). q.step) (filter (λ (q : Piece). eqb q.process i && is_only_try (shape ds i) q.step q.work) (refused_pieces after.kept)))
+      none_before
       ∙ ap (map (λ (q : Piece). q.step)) (none_refused (λ q. eqb q.process i && is_only_try (shape ds i) q.step q.work) (λ q other. ap (λ t. t && is_only_try (shape ds i) q.step q.work) other)))
       none_begun
 
   state_new : process_state ds after i ≡ opening_state (course_of p) []
   state_new =
       ap (λ (g : Progress). record { progress = g; refused = refusals after.kept i (next_task g).step (next_task g).work }) progress_new
-      ∙ (ap (λ (qs : List Piece). record { progress = progress ds (opening_moment after.events) i; refused = length qs })
-      (none_refused (is_try_of i (next_of ds (opening_moment after.events) i).step (next_of ds (opening_moment after.events) i).work) (λ q other. away q other))
-      ∙ (opens_by_acts ds after.events i ∙ (ap (λ (x : Course). opening_state x (of_process i (acts after.events))) (its_course c core p) ∙ ap (opening_state (course_of p)) none_done)))
+      ∙ (ap (λ (qs : List Piece). record { progress = progress ds (opening_moment (on_history after.events)) i; refused = length qs })
+      (none_refused (is_try_of i (next_of ds (opening_moment (on_history after.events)) i).step (next_of ds (opening_moment (on_history after.events)) i).work) (λ q other. away q other))
+      ∙ (alone_by_acts ds after.events i ∙ (ap (λ (x : Course). opening_state x (of_process i (acts after.events))) (its_course c core p) ∙ ap (opening_state (course_of p)) none_done)))
     where
-      away : (q : Piece) → eqb q.process i ≡ false → is_try_of i (next_of ds (opening_moment after.events) i).step (next_of ds (opening_moment after.events) i).work q ≡ false
-      away q other = ap (λ t. t && eqb q.step (next_of ds (opening_moment after.events) i).step && same_work q.work (next_of ds (opening_moment after.events) i).work) other
+      away : (q : Piece) → eqb q.process i ≡ false → is_try_of i (next_of ds (opening_moment (on_history after.events)) i).step (next_of ds (opening_moment (on_history after.events)) i).work q ≡ false
+      away q other = ap (λ t. t && eqb q.step (next_of ds (opening_moment (on_history after.events)) i).step && same_work q.work (next_of ds (opening_moment (on_history after.events)) i).work) other
 
   active_new : is_active after.events i ≡ true
   active_new = sym (is_active-is_in after.events i) ∙ (ap (is_in i) (active_after c core p) ∙ (is_in-append i (active m.events) (i ∷ []) ∙ or_right (is_in i (active m.events)) (eqb i i || false) (ap (λ t. t || false) (eq-eqb i i refl))))

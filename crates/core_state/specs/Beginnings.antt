@@ -5,9 +5,9 @@ use Rattle.std.specs.Option.{option_map}
 use Rattle.process_tree.specs.Recovery.{forward}
 use Rattle.schedule_model.specs.Histories.{is_in}
 use Rattle.machine_model.specs.declared.began.Began.{Began}
-use Rattle.machine_model.specs.declared.began.Cause.{Cause}
-use Rattle.machine_model.specs.declared.began.Cause.TheVariants.{Abort as WasAborted, Cascade, Refused, Restart}
-use Rattle.machine_model.specs.declared.began.Cause.TheVariants.{Victim as WasVictim}
+use Rattle.schedule_model.specs.declared.marks.Cause.{Cause}
+use Rattle.schedule_model.specs.declared.marks.Cause.TheVariants.{Abort as WasAborted, Cascade, Refused, Restart}
+use Rattle.schedule_model.specs.declared.marks.Cause.TheVariants.{Victim as WasVictim}
 use Rattle.machine_model.specs.declared.kept.Kept.{Kept}
 use Rattle.machine_model.specs.declared.kept.Kept.TheVariants.{Abort, Victim}
 use Rattle.machine_model.specs.declared.replies.Aborted.{Aborted}

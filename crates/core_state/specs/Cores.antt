@@ -1,16 +1,19 @@
 -- What a core is seen as: a machine, with the plans of its processes and the table of conflicts.
-use Rattle.std.specs.Prelude.{◌≡◌, ◌<◌, ℕ, List, [], Option, Some}
+use Rattle.std.specs.Prelude.{◌≡◌, ◌<◌, ℕ, List, [], take, Option, Some}
 use Rattle.std.specs.List.{Contains}
 use Rattle.std.specs.Option.{option_map}
 use Rattle.process_tree.specs.declared.plan.Plan.{Plan}
 use Rattle.process_tree.specs.Conflicts.{Table, do_conflict, operations_in}
 use Rattle.process_tree.specs.Order.{Each}
 use Rattle.schedule_model.specs.declared.event.Event.{Event}
+use Rattle.schedule_model.specs.declared.history.History.{History}
+use Rattle.schedule_model.specs.declared.marks.Begun.{Begun}
+use Rattle.schedule_model.specs.declared.marks.RefusedStep.{RefusedStep}
 use Rattle.schedule_model.specs.Conflict.{ConflictRelation}
 use Rattle.schedule_model.specs.Course.{Course, courses_of}
 use Rattle.machine_model.specs.declared.kept.Kept.{Kept}
 use Rattle.machine_model.specs.declared.began.Began.{Began}
-use Rattle.machine_model.specs.Moment.{Moment, Piece, beginning_of}
+use Rattle.machine_model.specs.Moment.{Moment, Opening, Piece, beginning_of, on_history}
 use Rattle.machine_model.specs.Pieces.{piece_of}
 use Rattle.machine_model.specs.Advance.{Machine}
 use Rattle.machine_model.specs.Runs.{history, now}
@@ -20,8 +23,8 @@ pub record CoreState : Type 0 where
   pub conflicts : Table
   -- the plan of each process that started, in order
   pub plans : List Plan
-  -- the history at the opening
-  pub opening : List Event
+  -- what was known at the opening
+  pub opening : Opening
   -- what was kept since
   pub kept : List Kept
   -- the process to which `next` last handed a piece, and 0 at first
@@ -47,9 +50,21 @@ moment_of c = now (relation c) (machine_of c)
 abbrev pub history_of : CoreState → List Event
 history_of c = history (relation c) (machine_of c)
 
--- a core that opens on this history
+-- an opening on the first events of a history
+abbrev pub opening_in : ℕ → List Event → List Begun → List RefusedStep → Opening
+opening_in n h begun refused = record { history = take n h; begun = begun; refused = refused }
+
+-- what is known at an opening on a history, with who has begun to complete and what was refused
+abbrev pub opening_of : History → Opening
+opening_of h = record { history = h.events; begun = h.begun; refused = h.refused }
+
+-- a core with this opening
+abbrev pub opened_at : Table → List Plan → Opening → CoreState
+opened_at conflicts plans o = record { conflicts = conflicts; plans = plans; opening = o; kept = []; served = 0 }
+
+-- a core that opens on a history alone, in which nobody has begun to complete and nothing was refused
 abbrev pub opened_on : Table → List Plan → List Event → CoreState
-opened_on conflicts plans h = record { conflicts = conflicts; plans = plans; opening = h; kept = []; served = 0 }
+opened_on conflicts plans h = opened_at conflicts plans (on_history h)
 
 -- it is a run of the machine over good plans that opened on a legal history within the limits, and the table has the operations of
 -- its plans

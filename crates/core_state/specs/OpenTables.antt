@@ -11,7 +11,7 @@ use Rattle.schedule_model.specs.Course.{Course, shape}
 use Rattle.schedule_model.specs.Histories.{active, doing, is_in, net, net_steps, of_process, steps_of}
 use Rattle.schedule_model.specs.declared.event.Event.{Event}
 use Rattle.schedule_model.specs.Holdings.{active_net}
-use Rattle.machine_model.specs.Moment.{Moment, opening_moment}
+use Rattle.machine_model.specs.Moment.{Moment, Opening, opening_moment}
 use Rattle.machine_model.specs.State.{hold_of, holdings}
 use Rattle.machine_model.specs.Laws.{open_only}
 use Rattle.hold_tables.specs.Changes.{all_fixed, changed, run, took_effect, with_reserved}
@@ -74,15 +74,15 @@ tables_at conflicts courses is es =
     record { conflicts = conflicts; net = filter (λ e. is_in e.process is) es; processes = map (row_at courses es) is }
 
 -- the row of process i at an opening: of the first n processes, with what it has to undo
-abbrev pub row_up_to : ℕ → List Course → List Event → ℕ → OpenProcess
-row_up_to n courses h i = if nat_le i n then row_of courses (opening_moment h) i else row_at courses (net h) i
+abbrev pub row_up_to : ℕ → List Course → Opening → ℕ → OpenProcess
+row_up_to n courses o i = if nat_le i n then row_of courses (opening_moment o) i else row_at courses (net o.history) i
 
 -- the tables at an opening where what the first n processes have to undo is pending
-abbrev pub tables_up_to : ℕ → Table → List Course → List Event → Tables
-tables_up_to n conflicts courses h = record {
+abbrev pub tables_up_to : ℕ → Table → List Course → Opening → Tables
+tables_up_to n conflicts courses o = record {
   conflicts = conflicts;
-  net = filter (λ e. is_in e.process (active h)) (net h);
-  processes = map (row_up_to n courses h) (active h);
+  net = filter (λ e. is_in e.process (active o.history)) (net o.history);
+  processes = map (row_up_to n courses o) (active o.history);
 }
 
 -- They stand for what the active processes hold.

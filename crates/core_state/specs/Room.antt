@@ -29,11 +29,11 @@ most_kept courses opening h = sum_by (λ i. kept_for (course courses i)) (open_s
 -- No run keeps more.
 abbrev pub BoundOnKept : Type 0
 BoundOnKept = (table : ConflictRelation) (plans : List Plan) (s : Machine) → IsSession table plans s
-    → length s.kept ≤ most_kept s.courses s.opening (history table s)
+    → length s.kept ≤ most_kept s.courses s.opening.history (history table s)
 
 -- how many a core keeps at most before another process starts
 abbrev pub room_of : CoreState → ℕ
-room_of c = most_kept (courses_in c) c.opening (history_of c)
+room_of c = most_kept (courses_in c) c.opening.history (history_of c)
 
 -- What is kept stands, and there is room for all events that may come before another process starts.
 pub record IsKept (c : CoreState) (h : List Event) (ss : List SeatState) (ts : Tables) (opening most capacity : ℕ) : Type 0 where

@@ -7,7 +7,7 @@ ghost use Rattle.schedule_model.specs.Course.{course, course_of, courses_of};
 ghost use Rattle.schedule_model.specs.Histories.{active};
 ghost use Rattle.machine_model.specs.Laws.{pieces_for, pieces_for_step};
 ghost use Rattle.machine_model.specs.Moment.{opening_moment};
-ghost use Rattle.core_state.specs.Cores.{IsCore, opened_on};
+ghost use Rattle.core_state.specs.Cores.{IsCore, opened_at, opening_of};
 ghost use Rattle.core_state.specs.Room.{kept_for};
 ghost use Rattle.core_state.specs.Seats.{seats_of};
 
@@ -56,9 +56,9 @@ pub fn kept_for(plan: &Plan) -> usize
 /// How many events are kept at most after an opening on this history, before another process starts. The seats are those at the
 /// opening.
 pub fn room_at_opening(h: &History, seats: &[Seat]) -> usize
-    requires core { (conflicts : Table) × IsCore (opened_on conflicts h.now.plans h.now.events) }
+    requires core { (conflicts : Table) × IsCore (opened_at conflicts h.now.plans (opening_of h.now)) }
     requires few { length h.now.plans ≤ 4096 }
-    requires seats { seats.now ≡ seats_of (courses_of h.now.plans) (opening_moment h.now.events) }
+    requires seats { seats.now ≡ seats_of (courses_of h.now.plans) (opening_moment (opening_of h.now)) }
     ensures { result ≡ sum_by (λ i. kept_for (course (courses_of h.now.plans) i)) (active h.now.events) }
 {
     let plans = h.plans.as_slice();

@@ -10,7 +10,7 @@ ghost use Rattle.hold_tables.specs.Kept.{IsKnown};
 ghost use Rattle.hold_tables.specs.Tables.{is_open, kept_of};
 ghost use Rattle.schedule_model.specs.Course.{courses_of};
 ghost use Rattle.schedule_model.specs.Histories.{active, net};
-ghost use Rattle.core_state.specs.Cores.{IsCore, opened_on};
+ghost use Rattle.core_state.specs.Cores.{IsCore, opened_at, opening_of};
 ghost use Rattle.core_state.specs.OpenTables.{planned_behind, planned_step, stood, tables_at, tables_of};
 ghost use Rattle.core_state.specs.Seats.{seats_of};
 
@@ -74,7 +74,7 @@ fn stand(alloc: Global, holds: &mut Holds, plan: &Plan, e: Entry) -> Result<(), 
 
 /// The entries that stand and are of active processes come into the tables.
 fn fill(alloc: Global, holds: &mut Holds, h: &History, entries: &[Entry]) -> Result<(), AllocError>
-    requires core { IsCore (opened_on holds.old.conflicts h.now.plans h.now.events) }
+    requires core { IsCore (opened_at holds.old.conflicts h.now.plans (opening_of h.now)) }
     requires net { entries.now ≡ net h.now.events }
     requires empty { holds.old ≡ tables_at holds.old.conflicts (courses_of h.now.plans) (active h.now.events) [] }
     ensures { OnOk result (holds.new ≡ tables_at holds.old.conflicts (courses_of h.now.plans) (active h.now.events) entries.now) }
@@ -91,7 +91,7 @@ fn fill(alloc: Global, holds: &mut Holds, h: &History, entries: &[Entry]) -> Res
 
 /// A row is opened for each active process.
 fn open_rows(holds: &mut Holds, h: &History) -> Result<(), AllocError>
-    requires core { IsCore (opened_on holds.old.conflicts h.now.plans h.now.events) }
+    requires core { IsCore (opened_at holds.old.conflicts h.now.plans (opening_of h.now)) }
     requires few { length h.now.plans ≤ 4096 }
     requires none { holds.old ≡ none_open holds.old.conflicts }
     ensures { OnOk result (holds.new ≡ tables_at holds.old.conflicts (courses_of h.now.plans) (active h.now.events) []) }
@@ -108,11 +108,11 @@ fn open_rows(holds: &mut Holds, h: &History) -> Result<(), AllocError>
 
 /// What each active process has to undo is pending.
 fn pend_all(holds: &mut Holds, h: &History, seats: &[Seat])
-    requires core { IsCore (opened_on holds.old.conflicts h.now.plans h.now.events) }
+    requires core { IsCore (opened_at holds.old.conflicts h.now.plans (opening_of h.now)) }
     requires few { length h.now.plans ≤ 4096 }
-    requires seats { seats.now ≡ seats_of (courses_of h.now.plans) (opening_moment h.now.events) }
+    requires seats { seats.now ≡ seats_of (courses_of h.now.plans) (opening_moment (opening_of h.now)) }
     requires stood { holds.old ≡ tables_at holds.old.conflicts (courses_of h.now.plans) (active h.now.events) (net h.now.events) }
-    ensures { holds.new ≡ tables_of holds.old.conflicts (courses_of h.now.plans) (opening_moment h.now.events) }
+    ensures { holds.new ≡ tables_of holds.old.conflicts (courses_of h.now.plans) (opening_moment (opening_of h.now)) }
 {
     for place in 0..seats.len() {
         if let Some(count) = seats[place].pending() {
@@ -129,10 +129,10 @@ pub fn opened_tables(
     c: &Conflicts,
     seats: &[Seat],
 ) -> Result<Holds, AllocError>
-    requires core { IsCore (opened_on c.now h.now.plans h.now.events) }
+    requires core { IsCore (opened_at c.now h.now.plans (opening_of h.now)) }
     requires few { length h.now.plans ≤ 4096 }
-    requires seats { seats.now ≡ seats_of (courses_of h.now.plans) (opening_moment h.now.events) }
-    ensures { IfOk result (λ holds. holds ≡ tables_of c.now (courses_of h.now.plans) (opening_moment h.now.events)) }
+    requires seats { seats.now ≡ seats_of (courses_of h.now.plans) (opening_moment (opening_of h.now)) }
+    ensures { IfOk result (λ holds. holds ≡ tables_of c.now (courses_of h.now.plans) (opening_moment (opening_of h.now))) }
 {
     let mut holds = Holds::new(alloc, c)?;
     open_rows(&mut holds, h)?;

@@ -11,12 +11,13 @@ use Rattle.process_tree.specs.Order.{Each}
 use Rattle.process_tree.specs.Shape.{Shape}
 use Rattle.process_tree.specs.Termination.{IsWellFormed}
 use Rattle.schedule_model.specs.declared.event.Event.{Event}
+use Rattle.schedule_model.specs.declared.history.History.{History}
 use Rattle.schedule_model.specs.Course.{Course, allowance_of, course_of, courses_of}
 use Rattle.schedule_model.specs.Laws.{IsGoodPlan}
 use Rattle.schedule_model.specs.Legal.{is_legal}
 use Rattle.schedule_model.specs.Limits.{is_within_limits}
 use Rattle.machine_model.proofs.RunsWithin.{runs_are_legal}
-use Rattle.process_core.specs.Cores.{CoreState, IsCore, courses_in, history_of, machine_of, opened_on, relation}
+use Rattle.process_core.specs.Cores.{CoreState, IsCore, courses_in, history_of, machine_of, opened_at, opened_on, opening_of, relation}
 
 -- the shape and the course of what a plan says
 abbrev shape_by : Outline → Shape
@@ -87,7 +88,13 @@ opens_again c conflicts p q plans h core same one equal copied events =
         one_each = sym (ap length one) ∙ core.session.one_each;
         legal = legal;
         within = within;
+        marks = refl;
         run = refl;
       };
       known = λ r is. subst (λ (x : Plan). Each (λ op. op < operations_in c.conflicts) x.ops) (only_one q r is) known;
     }
+
+-- so it can on a history without marks
+pub opens_unmarked : (conflicts : Table) (plans : List Plan) (events : List Event) (h : History) → h ≡ record { plans = plans; events = events; begun = []; refused = [] }
+    → IsCore (opened_on conflicts plans events) → IsCore (opened_at conflicts h.plans (opening_of h))
+opens_unmarked conflicts plans events h is core = subst (λ (g : History). IsCore (opened_at conflicts g.plans (opening_of g))) (sym is) core

@@ -25,7 +25,8 @@ fn opened_again(rt: &impl Abort, alloc: Global, core: &Core, conflicts: Conflict
     let events = must(rt, history.events.as_slice().to_vec(alloc));
     let plans = must(rt, Plans::new(plans));
     let events = must(rt, Events::new(events));
-    must(rt, Core::open(alloc, History { plans, events }, conflicts))
+    let again = must(rt, History::unmarked(alloc, plans, events));
+    must(rt, Core::open(alloc, again, conflicts))
 }
 
 const FIRST: [(Call, Answer); 6] = [

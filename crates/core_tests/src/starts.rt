@@ -10,7 +10,7 @@ use commute_table::{Catalog, bind, read_catalog};
 use process_core::Core;
 use process_text::read;
 use process_tree::{Conflicts, Named, Plan};
-use schedule_model::{Events, History, Plans};
+use schedule_model::{Beginnings, Events, History, Plans, Refusals};
 use std::alloc::Global;
 use std::process::Abort;
 use well_formed::{Verdict, check};
@@ -78,7 +78,15 @@ pub fn opened(rt: &impl Abort, alloc: Global, conflicts: Conflicts) -> Core
 {
     let plans = must(rt, Plans::new(Vec::new(alloc)));
     let events = must(rt, Events::new(Vec::new(alloc)));
-    must(rt, Core::open(alloc, History { plans, events }, conflicts))
+    let begun = must(rt, Beginnings::new(Vec::new(alloc)));
+    let refused = must(rt, Refusals::new(Vec::new(alloc)));
+    let history = History {
+        plans,
+        events,
+        begun,
+        refused,
+    };
+    must(rt, Core::open(alloc, history, conflicts))
 }
 
 // The plan of a process that can't get stuck.

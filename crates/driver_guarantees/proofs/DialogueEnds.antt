@@ -137,7 +137,7 @@ module _ (table : ConflictRelation) (plans : List Plan) (driver : Driver) where
     alone = ap (λ (m : Moment). m.out) now1 ∙ ap (λ ps. ps ++ d.piece ∷ []) (victims_idle table s.courses (length (active (history table s))) (now table s) is.idle)
 
     found : piece_of (now table s1).kept d.piece.number ≡ Some d.piece
-    found = (subst (Each (IsPieceOfItsNumber (now table s1).kept)) alone (run-own_order table plans session1.good s1 session1.courses session1.legal session1.run).order.tidy.linked).0
+    found = (subst (Each (IsPieceOfItsNumber (now table s1).kept)) alone (run-own_order table plans session1.good s1 session1.courses session1.legal session1.marks session1.run).order.tidy.linked).0
 
     idle2 : (now table s2).out ≡ []
     idle2 = ap (λ (m : Moment). m.out) (called-now table s1 (finish d.piece.number (said driver d)) tt)

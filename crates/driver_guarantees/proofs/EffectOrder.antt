@@ -223,13 +223,13 @@ pub sessions_keep_order : SessionsKeepOrder
 sessions_keep_order table plans s session = record { effects = order; out = out }
   where
     order : InOrder (names_of (history table s))
-    order = in_order (courses_of plans) (history table s) (run-own_order table plans session.good s session.courses session.legal session.run).legal
+    order = in_order (courses_of plans) (history table s) (run-own_order table plans session.good s session.courses session.legal session.marks session.run).legal
 
     out : (i : ℕ) (p : Piece) → running_of (now table s) i ≡ Some p
         → IfSome (work_name p.process p.step p.work) (λ n. IsTrue (may_follow (names_of (history table s)) n))
     out i p running =
         let active' = Each-find (λ p. is_active (history table s) p.process ≡ true) (λ p. eqb p.process i) (now table s).out p
-        (run-own_order table plans session.good s session.courses session.legal session.run).active running in
+        (run-own_order table plans session.good s session.courses session.legal session.marks session.run).active running in
         let own : p.process ≡ i = eqb-true p.process i (find-passes (λ p. eqb p.process i) (now table s).out p running) in
         let next : Task = next_of s.courses (now table s) i in
         let same = same_is (record { work = p.work; step = p.step }) next (running_is_next table s i p session.run running) in

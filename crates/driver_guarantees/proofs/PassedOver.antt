@@ -58,7 +58,7 @@ module _ (table : ConflictRelation) (plans : List Plan) (i count : ℕ) where
     same = victims_leave table s.courses (length (active h)) (now table s)
 
     legal : IsTrue (is_legal no_conflict (courses_of plans) h)
-    legal = (run-own_order table plans session.good s session.courses session.legal session.run).legal
+    legal = (run-own_order table plans session.good s session.courses session.legal session.marks session.run).legal
 
     rising : Rising (active m.events)
     rising = subst (λ g. Rising (active g)) (sym same) (active-rising no_conflict (courses_of plans) h legal)
@@ -123,7 +123,7 @@ between_fewer count served i low high = by_order (ltb served i) refl
 pub nobody_is_passed_over : NobodyIsPassedOver
 nobody_is_passed_over table plans s i cs session goes none many free =
     let h = history table s in
-    let legal = (run-own_order table plans session.good s session.courses session.legal session.run).legal in
+    let legal = (run-own_order table plans session.good s session.courses session.legal session.marks session.run).legal in
     let bounds = legal-numbered no_conflict (courses_of plans) h legal i (and_parts (is_in i (starts h)) (not (is_in i (ends h))) goes).0 in
     let fewer = between_fewer (length (starts h)) s.served i bounds.0 bounds.1 in
     served_in_time table plans i (length (starts h)) cs s session none refl (omega arith) free

@@ -17,20 +17,21 @@ use Rattle.schedule_model.specs.Holdings.{holders}
 use Rattle.schedule_model.specs.Legal.{is_legal}
 use Rattle.schedule_model.proofs.Active.{is_active-is_in}
 use Rattle.schedule_model.proofs.Members.{Among, among-filter, among-is_in, among-map, is_in-among}
-use Rattle.machine_model.specs.declared.began.Cause.{Cause}
-use Rattle.machine_model.specs.declared.began.Cause.TheVariants.{Refused, Cascade}
+use Rattle.schedule_model.specs.declared.marks.Cause.{Cause}
+use Rattle.schedule_model.specs.declared.marks.Cause.TheVariants.{Refused, Cascade}
+use Rattle.schedule_model.specs.declared.marks.RefusedStep.{RefusedStep}
 use Rattle.machine_model.specs.declared.kept.Kept.{Kept}
 use Rattle.machine_model.specs.declared.kept.Kept.TheVariants.{Start, Hand, Effect, Refuse, Abort, Victim, Restart}
 use Rattle.machine_model.specs.declared.kept.Work.{Work}
 use Rattle.machine_model.specs.declared.kept.Work.TheVariants.{Forward, Undo, End}
 use Rattle.machine_model.specs.Advance.{cascade_of, drag_along, event_by, goes_back, step_refused, work_refused}
 use Rattle.machine_model.specs.Cascade.{drags}
-use Rattle.machine_model.specs.Moment.{Beginning, Moment, Piece, RefusedStep, all_begin, begins, begins_now, happened, has_begun, losses, noted, of_others, out_after, without}
+use Rattle.machine_model.specs.Moment.{Beginning, Moment, Piece, all_begin, begins, begins_now, happened, has_begun, losses, noted, of_others, out_after, without}
 use Rattle.machine_model.specs.Pieces.{hands, is_refusal, piece_of, refused_pieces}
 use Rattle.machine_model.specs.Progress.{way_on}
 use Rattle.machine_model.specs.State.{holdings, pending_of, progress, refused_before}
 use Rattle.machine_model.proofs.OpenHoldings.{holders-active}
-use Rattle.forgetting_model.specs.Moments.{IsLeftOf, refused_tasks, renumbered_beginning, renumbered_cause, renumbered_kept, renumbered_lost, renumbered_piece, renumbered_refused, task_of}
+use Rattle.forgetting_model.specs.Moments.{IsLeftOf, refused_tasks, renumbered_beginning, renumbered_cause, renumbered_kept, renumbered_lost, renumbered_piece, refused_since, task_of}
 use Rattle.forgetting_model.specs.Remaining.{as_before, carried_at, courses_left, events_of, is_open, number_in, number_since, place_among, remaining, renumbered_event}
 use Rattle.forgetting_model.proofs.Invisible.{active_positive, courses_alike, opens}
 use Rattle.forgetting_model.proofs.Lives.{active-carried, numbers-apart, numbers-open, whole-open}
@@ -165,8 +166,8 @@ module _ (table : ConflictRelation) (courses : List Course) (h : List Event) (le
     before-left k some =
         sym (ap (λ rs. map (λ (r : RefusedStep). r.step) (filter (λ (r : RefusedStep). eqb r.process k) rs)) left.refused
         ∙ (ap (map (λ (r : RefusedStep). r.step))
-        (filter-mapped (renumbered_refused (number_since h)) (λ (r : RefusedStep). eqb r.process k) (λ (r : RefusedStep). eqb r.process (number_in h k)) m.refused (λ r. since_is r.process k some))
-        ∙ map-unchanged (renumbered_refused (number_since h)) (λ (r : RefusedStep). r.step) (λ (r : RefusedStep). r.step) (filter (λ (r : RefusedStep). eqb r.process (number_in h k)) m.refused) (λ r. refl)))
+        (filter-mapped (refused_since h) (λ (r : RefusedStep). eqb r.process k) (λ (r : RefusedStep). eqb r.process (number_in h k)) m.refused (λ r. since_is r.process k some))
+        ∙ map-unchanged (refused_since h) (λ (r : RefusedStep). r.step) (λ (r : RefusedStep). r.step) (filter (λ (r : RefusedStep). eqb r.process (number_in h k)) m.refused) (λ r. refl)))
 
     module _ (goes : IsTrue (is_legal table courses m.events)) where
       whole_legal : IsTrue (is_legal table courses (h ++ as_before h left.followed))

@@ -22,7 +22,7 @@ use Rattle.schedule_model.proofs.Legal.{is_legal-prefix}
 use Rattle.schedule_model.proofs.Members.{Among, among-filter, among-from_contains, contains-from_among, in_map, is_in-among}
 use Rattle.schedule_model.proofs.Orders.{behind-same_step}
 use Rattle.schedule_model.proofs.Started.{among_net_of, net-started}
-use Rattle.machine_model.specs.declared.began.Cause.TheVariants.{Abort as Aborted, Victim as WasVictim, Restart as Restarted}
+use Rattle.schedule_model.specs.declared.marks.Cause.TheVariants.{Abort as Aborted, Victim as WasVictim, Restart as Restarted}
 use Rattle.machine_model.specs.declared.kept.Kept.{Kept}
 use Rattle.machine_model.specs.declared.kept.Kept.TheVariants.{Start, Hand, Effect, Refuse, Abort, Victim, Restart}
 use Rattle.machine_model.specs.declared.kept.Work.TheVariants.{Undo}

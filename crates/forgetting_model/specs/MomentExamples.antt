@@ -6,6 +6,7 @@ use Rattle.schedule_model.specs.Samples.{purchase, sale, stock_table}
 use Rattle.machine_model.specs.declared.kept.Kept.TheVariants.{Effect, Hand, Start}
 use Rattle.machine_model.specs.declared.kept.Work.TheVariants.{End, Forward}
 use Rattle.machine_model.specs.Advance.{Machine}
+use Rattle.machine_model.specs.Moment.{on_history}
 use Rattle.machine_model.specs.Replies.{effected, finish_reply}
 use Rattle.machine_model.specs.Runs.{is_run, now}
 use Rattle.std.specs.Prelude.{true}
@@ -15,7 +16,7 @@ use Rattle.forgetting_model.specs.Replies.{forgotten, served_since}
 -- the purchase did both its steps and ended; the sale was handed its first
 abbrev pub one_ended : Machine
 one_ended = record {
-  opening = [];
+  opening = on_history [];
   courses = purchase ∷ sale ∷ [];
   kept = Start 1 ∷ Hand 1 1 0 Forward ∷ Effect 1 ∷ Hand 2 1 1 Forward ∷ Effect 2 ∷ Start 2 ∷ Hand 3 1 0 End ∷ Effect 3 ∷ Hand 4 2 0 Forward ∷ [];
   served = 2;

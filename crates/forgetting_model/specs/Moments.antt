@@ -1,5 +1,5 @@
 -- What is left of a moment of the machine where those that had ended are forgotten.
-use Rattle.std.specs.Prelude.{◌≡◌, ℕ, List, ◌++◌, filter, map, nat_eq, IsTrue}
+use Rattle.std.specs.Prelude.{◌≡◌, ℕ, List, ◌++◌, filter, length, map, nat_eq, take, IsTrue}
 use Rattle.std.specs.Option.{option_map}
 use Rattle.schedule_model.specs.declared.event.Event.{Event}
 use Rattle.schedule_model.specs.Course.{Course}
@@ -7,19 +7,20 @@ use Rattle.schedule_model.specs.Conflict.{ConflictRelation}
 use Rattle.schedule_model.specs.Histories.{active, is_active}
 use Rattle.process_tree.specs.declared.plan.Plan.{Plan}
 use Rattle.machine_model.specs.declared.blocked.Blocked.{Blocked}
-use Rattle.machine_model.specs.declared.began.Cause.{Cause}
-use Rattle.machine_model.specs.declared.began.Cause.TheVariants.{Refused, Abort as Aborted, Cascade, Victim as WasVictim}
-use Rattle.machine_model.specs.declared.began.Cause.TheVariants.{Restart as Restarted}
+use Rattle.schedule_model.specs.declared.marks.Cause.{Cause}
+use Rattle.schedule_model.specs.declared.marks.Cause.TheVariants.{Refused, Abort as Aborted, Cascade, Victim as WasVictim}
+use Rattle.schedule_model.specs.declared.marks.Cause.TheVariants.{Restart as Restarted}
+use Rattle.schedule_model.specs.declared.marks.RefusedStep.{RefusedStep}
 use Rattle.machine_model.specs.declared.kept.Kept.{Kept}
 use Rattle.machine_model.specs.declared.kept.Kept.TheVariants.{Start, Hand, Effect, Refuse, Abort, Victim, Restart}
-use Rattle.machine_model.specs.Moment.{Beginning, Lost, Moment, Piece, RefusedStep}
+use Rattle.machine_model.specs.Moment.{Beginning, Lost, Moment, Piece}
 use Rattle.machine_model.specs.Pieces.{refused_pieces, running_of}
 use Rattle.machine_model.specs.Progress.{Task}
 use Rattle.machine_model.specs.State.{block_of, is_blocked, is_exhausted, is_free, is_stalled, process_state, victim_of}
 use Rattle.machine_model.specs.Advance.{Machine, advance, cascade_of}
 use Rattle.machine_model.specs.Runs.{may_be_kept, now}
 use Rattle.machine_model.specs.Laws.{IsSession}
-use Rattle.forgetting_model.specs.Remaining.{as_before, courses_left, number_in, number_since, remaining}
+use Rattle.forgetting_model.specs.Remaining.{as_before, courses_left, events_of, is_open, number_in, number_since, remaining}
 
 -- a piece whose process has another number
 abbrev pub renumbered_piece : (ℕ → ℕ) → Piece → Piece
@@ -66,9 +67,10 @@ renumbered_beginning number b = record {
 abbrev pub renumbered_lost : (ℕ → ℕ) → Lost → Lost
 renumbered_lost number l = record { piece = renumbered_piece number l.piece; event = l.event }
 
--- a refused step whose process has another number
-abbrev pub renumbered_refused : (ℕ → ℕ) → RefusedStep → RefusedStep
-renumbered_refused number r = record { process = number r.process; step = r.step }
+-- a refused step, by the number since of its process and how many of the events before it are left
+abbrev pub refused_since : List Event → RefusedStep → RefusedStep
+refused_since h r =
+    record { process = number_since h r.process; step = r.step; at = length (events_of (is_open h) (take r.at h)) }
 
 -- n is left of a moment m where those that had ended in h are forgotten: what followed is the same, and so is what is known of the
 -- session, by the numbers since; what was kept of those that are forgotten is of no process, which has number 0
@@ -81,7 +83,7 @@ pub record IsLeftOf (h : List Event) (m n : Moment) : Type 0 where
   pub out : m.out ≡ map (renumbered_piece (number_in h)) n.out
   pub lost : n.lost ≡ map (renumbered_lost (number_since h)) m.lost
   pub beginnings : n.beginnings ≡ map (renumbered_beginning (number_since h)) m.beginnings
-  pub refused : n.refused ≡ map (renumbered_refused (number_since h)) m.refused
+  pub refused : n.refused ≡ map (refused_since h) m.refused
 
 -- what is left of a moment where all that have ended are forgotten
 abbrev pub left_of : Moment → Moment
@@ -91,7 +93,7 @@ left_of m = record {
   out = map (renumbered_piece (number_since m.events)) m.out;
   lost = map (renumbered_lost (number_since m.events)) m.lost;
   beginnings = map (renumbered_beginning (number_since m.events)) m.beginnings;
-  refused = map (renumbered_refused (number_since m.events)) m.refused;
+  refused = map (refused_since m.events) m.refused;
 }
 
 -- At each moment of a session those that have ended can be forgotten.

@@ -18,7 +18,7 @@ use Rattle.schedule_model.proofs.ReductionLaws.{prefix-reducibility}
 use Rattle.schedule_model.proofs.StandingLaws.{completion-law}
 use Rattle.reduction_trace.specs.Whole.{completed_history}
 use Rattle.commute_table.specs.declared.catalog.Catalog.{Catalog}
-use Rattle.machine_model.specs.declared.began.Cause.{Cause}
+use Rattle.schedule_model.specs.declared.marks.Cause.{Cause}
 use Rattle.process_core.specs.Cores.{CoreState, history_of}
 use Rattle.process_journal.specs.Laws.{beginning}
 use Rattle.history_files.specs.Effects.{effects}

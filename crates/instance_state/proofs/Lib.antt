@@ -7,6 +7,7 @@ pub mod States
 pub mod Forward
 pub mod Replays
 pub mod OwedAbove
+pub mod Barred
 pub mod Placed
 pub mod ProcessLaws
 pub mod AfterSteps

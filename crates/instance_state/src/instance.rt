@@ -4,11 +4,11 @@ ghost use Rattle.machine_model.specs.ProcessState.{todo, effected, was_refused, 
 ghost use Rattle.machine_model.specs.ProcessState.{refusal_by, are_used_up, told_task};
 ghost use Rattle.process_tree.specs.Shape.{shape_of};
 ghost use Rattle.process_tree.specs.Recovery.{forward};
-ghost use Rattle.instance_state.specs.Instances.{opened, moved_to, is_piece};
+ghost use Rattle.instance_state.specs.Instances.{opened, opened_with, moved_to, is_piece};
 ghost use Rattle.instance_state.specs.OwnActs.{are_in_own_order};
 
 use crate::rows::Rows;
-use crate::standing::{Standing, replayed, tries};
+use crate::standing::{Standing, opened, tries};
 use machine_model::{Recovery, Refusal, Todo, Work};
 use process_tree::{Entry, Plan};
 use std::alloc::{AllocError, Global};
@@ -75,13 +75,20 @@ impl Instance {
         Ok(Instance { rows, at })
     }
 
-    /// A process that has these acts behind it at an opening.
-    pub fn replay(alloc: Global, plan: &Plan, acts: &[Entry]) -> Result<Instance, AllocError>
+    /// A process at an opening that has these acts behind it: these steps of it aren't tried again, and it has begun to complete or
+    /// not.
+    pub fn replay(
+        alloc: Global,
+        plan: &Plan,
+        acts: &[Entry],
+        refused: &[u16],
+        begun: bool,
+    ) -> Result<Instance, AllocError>
         requires { are_in_own_order (shape_of plan.now.tree) acts.now ≡ true }
-        ensures { IfOk result (λ instance. instance ≡ opened plan.now acts.now) }
+        ensures { IfOk result (λ instance. instance ≡ opened_with plan.now acts.now refused.now begun) }
     {
         let rows = Rows::new(alloc, plan)?;
-        let at = replayed(&rows, acts);
+        let at = opened(&rows, acts, refused, begun);
         Ok(Instance { rows, at })
     }
 

@@ -1,10 +1,10 @@
 // Where a process stands, and what is read off.
-ghost use Rattle.std.specs.Prelude.{[], true, nat_eq, ◌&&◌, ◌≡◌, ◌≤◌, ◌<◌, false, length, Option, Some, None, is_none};
+ghost use Rattle.std.specs.Prelude.{[], true, nat_eq, ◌&&◌, ◌≡◌, ◌≤◌, ◌<◌, ◌+◌, max, false, length, Option, IfSome, Some, None, is_none};
 ghost use Rattle.process_tree.specs.Shape.{branch_to, is_whole, fixed_len, first_of, goes_on_to};
 ghost use Rattle.process_tree.specs.Recovery.{forward};
 ghost use Rattle.machine_model.specs.Progress.{way_on, staying, staying_for, next_forward, pending_steps, is_only_try, same_work};
 ghost use Rattle.machine_model.specs.ProcessState.{next_piece, step_done, last_undone, past, complete_unless_on, effected};
-ghost use Rattle.machine_model.specs.ProcessState.{was_refused, begun, tries_in, opening_state};
+ghost use Rattle.machine_model.specs.ProcessState.{was_refused, begun, tries_in, marked_state, opening_state};
 ghost use Rattle.machine_model.specs.declared.kept.Work.TheVariants.{Forward, End};
 ghost use Rattle.instance_state.specs.Rows.{done_to, way_from};
 ghost use Rattle.instance_state.specs.OwnActs.{are_in_own_order};
@@ -322,6 +322,39 @@ impl Standing {
         }
     }
 
+    /// The way on behind this step.
+    fn way_behind(&self, rows: &Rows, step: u16) -> Option<u16>
+        requires keeps { Keeps rows.now.shape self.now }
+        requires later { IfSome self.now.last (λ b. b < self.now.onward) }
+        ensures { self.now.begun ≡ false → result ≡ way_from rows.now.shape (done_to rows.now.shape self.now.last) (max self.now.onward (step + 1)) }
+    {
+        if self.begun {
+            return None;
+        }
+        let mut way = self.way;
+        while let Some(next) = way {
+            if next > step {
+                return way;
+            }
+            way = rows.row(next).other;
+        }
+        way
+    }
+
+    /// This step was refused before an opening and isn't tried again: its ways on begin behind it.
+    pub fn barred(&self, rows: &Rows, step: u16) -> Standing
+        requires keeps { Keeps rows.now.shape self.now }
+        requires later { IfSome self.now.last (λ b. b < self.now.onward) }
+        ensures keeps { Keeps rows.now.shape result }
+        ensures state { state_of rows.now.shape result ≡ record { progress = past (progress_of rows.now.shape self.now) step; refused = self.now.refused } }
+    {
+        Standing {
+            onward: self.onward.max(u32::from(step) + 1),
+            way: self.way_behind(rows, step),
+            ..*self
+        }
+    }
+
     /// It starts.
     pub fn new(rows: &Rows) -> Standing
         ensures keeps { Keeps rows.now.shape result }
@@ -374,4 +407,18 @@ pub fn replayed(rows: &Rows, acts: &[Entry]) -> Standing
         };
     }
     at
+}
+
+/// Where a process stands at an opening, after these acts of its own: these steps of it aren't tried again, and it has begun to
+/// complete or not.
+pub fn opened(rows: &Rows, acts: &[Entry], refused: &[u16], begun: bool) -> Standing
+    requires { are_in_own_order rows.now.shape acts.now ≡ true }
+    ensures keeps { Keeps rows.now.shape result }
+    ensures state { state_of rows.now.shape result ≡ marked_state rows.now acts.now refused.now begun }
+{
+    let mut at = replayed(rows, acts);
+    for step in refused {
+        at = at.barred(rows, *step);
+    }
+    Standing { begun, ..at }
 }

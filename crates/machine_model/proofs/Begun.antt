@@ -8,7 +8,7 @@ use Rattle.schedule_model.specs.Conflict.{ConflictRelation}
 use Rattle.schedule_model.specs.Histories.{is_in}
 use Rattle.machine_model.specs.declared.kept.Kept.{Kept}
 use Rattle.machine_model.specs.declared.kept.Kept.TheVariants.{Start, Hand, Effect, Refuse, Abort, Victim, Restart}
-use Rattle.machine_model.specs.declared.began.Cause.{Cause}
+use Rattle.schedule_model.specs.declared.marks.Cause.{Cause}
 use Rattle.machine_model.specs.Moment.{Moment, Piece, Beginning, noted, happened, begins, begins_now, all_begin, has_begun}
 use Rattle.machine_model.specs.Pieces.{piece_of}
 use Rattle.machine_model.specs.Advance.{advance, goes_back, with_piece, event_of}

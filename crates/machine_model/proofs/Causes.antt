@@ -11,8 +11,8 @@ use Rattle.machine_model.specs.declared.kept.Kept.{Kept}
 use Rattle.machine_model.specs.declared.kept.Kept.TheVariants.{Start, Hand, Effect, Refuse, Abort, Victim, Restart}
 use Rattle.machine_model.specs.declared.kept.Work.{Work}
 use Rattle.machine_model.specs.declared.kept.Work.TheVariants.{Forward, Undo, End}
-use Rattle.machine_model.specs.declared.began.Cause.{Cause}
-use Rattle.machine_model.specs.declared.began.Cause.TheVariants.{Refused, Abort as WasAborted, Cascade, Victim as WasVictim, Restart as Restarted}
+use Rattle.schedule_model.specs.declared.marks.Cause.{Cause}
+use Rattle.schedule_model.specs.declared.marks.Cause.TheVariants.{Refused, Abort as WasAborted, Cascade, Victim as WasVictim, Restart as Restarted}
 use Rattle.machine_model.specs.Progress.{is_only_try, way_on}
 use Rattle.machine_model.specs.Moment.{Moment, Piece, Beginning, all_begin, beginning_of, begins, begins_now, happened, has_begun, noted}
 use Rattle.machine_model.specs.Pieces.{piece_of}

@@ -13,7 +13,7 @@ use Rattle.schedule_model.specs.Holdings.{Hold, Holdings, all_running, behind, h
 use Rattle.schedule_model.proofs.Members.{Among, among-right, any-among, in_filter, in_flat_map}
 use Rattle.schedule_model.proofs.Walks.{reached_closed}
 use Rattle.machine_model.specs.declared.kept.Work.TheVariants.{Forward}
-use Rattle.machine_model.specs.declared.began.Cause.{Cause}
+use Rattle.schedule_model.specs.declared.marks.Cause.{Cause}
 use Rattle.machine_model.specs.Cascade.{drags, takes_back_all}
 use Rattle.machine_model.specs.Moment.{Moment, Piece, all_begin, begins, begins_now, has_begun}
 use Rattle.machine_model.specs.Pieces.{running_of}

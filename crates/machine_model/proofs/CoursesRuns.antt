@@ -20,7 +20,7 @@ use Rattle.machine_model.specs.declared.kept.Kept.{Kept}
 use Rattle.machine_model.specs.declared.kept.Kept.TheVariants.{Start, Hand, Effect, Refuse, Abort, Victim, Restart}
 use Rattle.machine_model.specs.declared.kept.Work.{Work}
 use Rattle.machine_model.specs.declared.kept.Work.TheVariants.{Forward, Undo, End}
-use Rattle.machine_model.specs.declared.began.Cause.TheVariants.{Abort as Aborted, Victim as WasVictim}
+use Rattle.schedule_model.specs.declared.marks.Cause.TheVariants.{Abort as Aborted, Victim as WasVictim}
 use Rattle.machine_model.specs.Progress.{Task, same_work}
 use Rattle.machine_model.specs.Moment.{Moment, Piece, noted, happened, has_begun}
 use Rattle.machine_model.specs.Pieces.{hands, piece_of, running_of}

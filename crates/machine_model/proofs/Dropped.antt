@@ -14,10 +14,11 @@ use Rattle.schedule_model.specs.Course.{Course}
 use Rattle.schedule_model.specs.Conflict.{ConflictRelation}
 use Rattle.machine_model.specs.declared.kept.Kept.{Kept}
 use Rattle.machine_model.specs.declared.kept.Kept.TheVariants.{Start, Hand, Effect, Refuse, Abort, Victim, Restart}
-use Rattle.machine_model.specs.declared.began.Cause.{Cause}
+use Rattle.schedule_model.specs.declared.marks.Begun.{Begun}
+use Rattle.schedule_model.specs.declared.marks.Cause.{Cause}
 use Rattle.machine_model.specs.declared.replies.PieceState.{PieceState}
 use Rattle.machine_model.specs.declared.replies.PieceState.TheVariants.{Out, Dropped, Over}
-use Rattle.machine_model.specs.Moment.{Moment, Piece, Lost, Beginning, beginning_of, noted, happened, losses, begins_now, has_begun}
+use Rattle.machine_model.specs.Moment.{Moment, Piece, Lost, Beginning, beginning, beginning_of, noted, happened, losses, begins_now, has_begun}
 use Rattle.machine_model.specs.Pieces.{hands, piece_of, is_finished, runs, dropped_at, event_of_lost, dropped_or_over, state_of}
 use Rattle.machine_model.specs.Advance.{Machine, advance, with_piece, event_of}
 use Rattle.machine_model.specs.Runs.{is_run, now, may_be_kept}
@@ -265,10 +266,15 @@ module _ (table : ConflictRelation) (courses : List Course) where
   pub advance-in_order : (m : Moment) (k : Kept) → LostInOrder m → may_be_kept table courses m k ≡ true → LostInOrder (advance table courses m k)
   advance-in_order m k order may = advance-keeps LostInOrder (λ cause n i never is. after-in_order cause n i never is) table courses m k (by_event m k order may)
 
+-- whoever began before an opening did so before its first event
+began_first : (bs : List Begun) → Each (λ (b : Beginning). b.began.event ≤ 0) (map beginning bs)
+began_first [] = tt
+began_first (b ∷ bs) = (omega arith, began_first bs)
+
 -- so it is all along a run
 pub run-in_order : (table : ConflictRelation) (s : Machine) → IsTrue (is_run table s) → LostInOrder (now table s)
 run-in_order table s run = run-keeps table s LostInOrder (advance-in_order table s.courses) run
-    (record { tidy = opening-tidy s.opening; lost = tt; kept = tt; all = λ n p b found began out. absurd (none-some b began) })
+    (record { tidy = opening-tidy s.opening; lost = tt; kept = began_first s.opening.begun; all = λ n p b found began out. absurd (none-some p found) })
 
 module _ (m : Moment) (n k : ℕ) (order : LostInOrder m) where
   dropped_from : (t : Bool) (o : Option Lost) → runs m n ≡ t → find (is_lost_number n) m.lost ≡ o → (if t then Out else dropped_or_over (event_of_lost o)) ≡ Dropped k → WasDroppedAt m n k

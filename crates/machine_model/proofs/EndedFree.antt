@@ -24,7 +24,7 @@ use Rattle.machine_model.specs.declared.kept.Kept.{Kept}
 use Rattle.machine_model.specs.declared.kept.Kept.TheVariants.{Start, Hand, Effect, Refuse, Abort, Victim, Restart}
 use Rattle.machine_model.specs.declared.kept.Work.{Work}
 use Rattle.machine_model.specs.declared.kept.Work.TheVariants.{Forward, Undo, End}
-use Rattle.machine_model.specs.Moment.{Moment, Piece, opening_moment}
+use Rattle.machine_model.specs.Moment.{Moment, Opening, Piece, opening_moment}
 use Rattle.machine_model.specs.Pieces.{piece_of, running_of, runs}
 use Rattle.machine_model.specs.Advance.{Machine, advance, advance_all, event_by}
 use Rattle.machine_model.specs.Runs.{goes_on_from, may_be_kept, now}
@@ -159,20 +159,20 @@ module _ (table : ConflictRelation) (symmetric : IsSymmetric table) (plans : Lis
     free = ended_after m k facts may;
   }
 
-  pub opening-ended_free : (h : List Event) → IsTrue (is_legal table cs h) → InOwnOrder table plans good (opening_moment h) → EndedFacts (opening_moment h)
-  opening-ended_free h legal own = record {
-    fixing = opening-fixing_free table symmetric plans good h own;
-    free = λ x e goes ended there back. ended-free table symmetric cs h (reducible-legal cs table h legal) x e ended
-        (or_left (is_active h x.process) (is_in x.process (after_number e.process (ends h))) goes) there back;
+  pub opening-ended_free : (o : Opening) → IsTrue (is_legal table cs o.history) → InOwnOrder table plans good (opening_moment o) → EndedFacts (opening_moment o)
+  opening-ended_free o legal own = record {
+    fixing = opening-fixing_free table symmetric plans good o own;
+    free = λ x e goes ended there back. ended-free table symmetric cs o.history (reducible-legal cs table o.history legal) x e ended
+        (or_left (is_active o.history x.process) (is_in x.process (after_number e.process (ends o.history))) goes) there back;
   }
 
 pub session-ended_free : (table : ConflictRelation) (plans : List Plan) (s : Machine) (session : IsSession table plans s) → EndedFacts table session.symmetric plans session.good (now table s)
 session-ended_free table plans s session =
-    let opening = run-own_order table plans session.good (record { opening = s.opening; courses = s.courses; kept = []; served = 0 }) session.courses session.legal refl in
+    let opening = run-own_order table plans session.good (record { opening = s.opening; courses = s.courses; kept = []; served = 0 }) session.courses session.legal session.marks refl in
     subst (λ xs. EndedFacts table session.symmetric plans session.good (advance_all table xs (opening_moment s.opening) s.kept)) (sym session.courses)
     (goes_on-keeps table (courses_of plans) (EndedFacts table session.symmetric plans session.good) (advance-ended_free table session.symmetric plans session.good) (opening_moment s.opening) s.kept
     (ap (λ xs. goes_on_from table xs (opening_moment s.opening) s.kept) (sym session.courses) ∙ session.run)
-    (opening-ended_free table session.symmetric plans session.good s.opening (ap (λ xs. is_legal table xs s.opening) (sym session.courses) ∙ session.legal) opening))
+    (opening-ended_free table session.symmetric plans session.good s.opening (ap (λ xs. is_legal table xs s.opening.history) (sym session.courses) ∙ session.legal) opening))
 
 pub ended_is_free : EndedIsFree
 ended_is_free table plans s session i k x e goes ended there here back =

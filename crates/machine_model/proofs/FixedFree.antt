@@ -6,7 +6,6 @@ use Rattle.std.proofs.lemmas.List.Folds.{list_any-append}
 use Rattle.process_tree.specs.declared.entry.Entry.{Entry}
 use Rattle.process_tree.specs.declared.plan.Plan.{Plan}
 use Rattle.process_tree.specs.Recovery.{StepClass, reserved, committing, undoable}
-use Rattle.schedule_model.specs.declared.event.Event.{Event}
 use Rattle.schedule_model.specs.Course.{Course, courses_of}
 use Rattle.schedule_model.specs.Conflict.{ConflictRelation, IsSymmetric, conflict, no_conflict}
 use Rattle.schedule_model.specs.Histories.{doing, is_active, net, net_of, same_step, undoing}
@@ -25,7 +24,7 @@ use Rattle.machine_model.specs.declared.kept.Kept.{Kept}
 use Rattle.machine_model.specs.declared.kept.Kept.TheVariants.{Effect}
 use Rattle.machine_model.specs.declared.kept.Work.{Work}
 use Rattle.machine_model.specs.declared.kept.Work.TheVariants.{Forward, Undo, End}
-use Rattle.machine_model.specs.Moment.{Moment, Piece, opening_moment}
+use Rattle.machine_model.specs.Moment.{Moment, Opening, Piece, opening_moment}
 use Rattle.machine_model.specs.Pieces.{piece_of, running_of, runs}
 use Rattle.machine_model.specs.State.{hold_of}
 use Rattle.machine_model.specs.Advance.{Machine, advance, advance_all}
@@ -187,20 +186,20 @@ module _ (table : ConflictRelation) (symmetric : IsSymmetric table) (plans : Lis
     free = fixed_after m k facts may;
   }
 
-  pub opening-fixed_free : (h : List Event) → IsTrue (is_legal table cs h) → InOwnOrder table plans good (opening_moment h) → FixedFacts (opening_moment h)
-  opening-fixed_free h legal own = record {
-    reserved = opening-reserved_free table symmetric plans good h legal own;
-    fixing = opening-fixing_free table symmetric plans good h own;
-    free = fixed-free table symmetric plans good h legal;
+  pub opening-fixed_free : (o : Opening) → IsTrue (is_legal table cs o.history) → InOwnOrder table plans good (opening_moment o) → FixedFacts (opening_moment o)
+  opening-fixed_free o legal own = record {
+    reserved = opening-reserved_free table symmetric plans good o legal own;
+    fixing = opening-fixing_free table symmetric plans good o own;
+    free = fixed-free table symmetric plans good o.history legal;
   }
 
 pub session-fixed_free : (table : ConflictRelation) (plans : List Plan) (s : Machine) (session : IsSession table plans s) → FixedFacts table session.symmetric plans session.good (now table s)
 session-fixed_free table plans s session =
-    let opening = run-own_order table plans session.good (record { opening = s.opening; courses = s.courses; kept = []; served = 0 }) session.courses session.legal refl in
+    let opening = run-own_order table plans session.good (record { opening = s.opening; courses = s.courses; kept = []; served = 0 }) session.courses session.legal session.marks refl in
     subst (λ xs. FixedFacts table session.symmetric plans session.good (advance_all table xs (opening_moment s.opening) s.kept)) (sym session.courses)
     (goes_on-keeps table (courses_of plans) (FixedFacts table session.symmetric plans session.good) (advance-fixed_free table session.symmetric plans session.good) (opening_moment s.opening) s.kept
     (ap (λ xs. goes_on_from table xs (opening_moment s.opening) s.kept) (sym session.courses) ∙ session.run)
-    (opening-fixed_free table session.symmetric plans session.good s.opening (ap (λ xs. is_legal table xs s.opening) (sym session.courses) ∙ session.legal) opening))
+    (opening-fixed_free table session.symmetric plans session.good s.opening (ap (λ xs. is_legal table xs s.opening.history) (sym session.courses) ∙ session.legal) opening))
 
 pub fixed_is_free : FixedIsFree
 fixed_is_free table plans s session i k x e goes other there here fixed back =

@@ -5,7 +5,6 @@ use Rattle.std.proofs.lemmas.Bool.{and_parts, eq-eqb, false≢true}
 use Rattle.process_tree.specs.declared.entry.Entry.{Entry}
 use Rattle.process_tree.specs.declared.plan.Plan.{Plan}
 use Rattle.process_tree.specs.Recovery.{class_of, committing}
-use Rattle.schedule_model.specs.declared.event.Event.{Event}
 use Rattle.schedule_model.specs.Course.{Course, courses_of, shape}
 use Rattle.schedule_model.specs.Conflict.{ConflictRelation, IsSymmetric, conflict}
 use Rattle.schedule_model.specs.Histories.{doing, is_active, is_in, net, net_of, steps_of}
@@ -24,7 +23,7 @@ use Rattle.machine_model.specs.declared.kept.Kept.TheVariants.{Hand}
 use Rattle.machine_model.specs.declared.kept.Work.{Work}
 use Rattle.machine_model.specs.declared.kept.Work.TheVariants.{Forward, Undo, End}
 use Rattle.machine_model.specs.Progress.{same_work}
-use Rattle.machine_model.specs.Moment.{Moment, Piece, opening_moment}
+use Rattle.machine_model.specs.Moment.{Moment, Opening, Piece, opening_moment}
 use Rattle.machine_model.specs.Pieces.{running_of}
 use Rattle.machine_model.specs.State.{against_work, block_of, holdings, is_exhausted, next_of}
 use Rattle.machine_model.specs.Advance.{Machine, advance, advance_all}
@@ -174,12 +173,12 @@ module _ (table : ConflictRelation) (symmetric : IsSymmetric table) (plans : Lis
   }
 
   -- at the opening nothing runs
-  pub opening-fixing_free : (h : List Event) → InOwnOrder table plans good (opening_moment h) → FixingFree (opening_moment h)
-  opening-fixing_free h own = record { running = record { own = own; free = λ i k d e a b. absurd (none-some a.0 a.1) }; fixing = λ i k x e f other there at. absurd (none-some f.0 f.1) }
+  pub opening-fixing_free : (o : Opening) → InOwnOrder table plans good (opening_moment o) → FixingFree (opening_moment o)
+  opening-fixing_free o own = record { running = record { own = own; free = λ i k d e a b. absurd (none-some a.0 a.1) }; fixing = λ i k x e f other there at. absurd (none-some f.0 f.1) }
 
 pub session-fixing_free : (table : ConflictRelation) (plans : List Plan) (s : Machine) (session : IsSession table plans s) → FixingFree table session.symmetric plans session.good (now table s)
 session-fixing_free table plans s session =
-    let opening = run-own_order table plans session.good (record { opening = s.opening; courses = s.courses; kept = []; served = 0 }) session.courses session.legal refl in
+    let opening = run-own_order table plans session.good (record { opening = s.opening; courses = s.courses; kept = []; served = 0 }) session.courses session.legal session.marks refl in
     subst (λ xs. FixingFree table session.symmetric plans session.good (advance_all table xs (opening_moment s.opening) s.kept)) (sym session.courses)
     (goes_on-keeps table (courses_of plans) (FixingFree table session.symmetric plans session.good) (advance-fixing_free table session.symmetric plans session.good) (opening_moment s.opening) s.kept
     (ap (λ xs. goes_on_from table xs (opening_moment s.opening) s.kept) (sym session.courses) ∙ session.run)

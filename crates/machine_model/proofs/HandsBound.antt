@@ -424,7 +424,7 @@ module _ (table : ConflictRelation) (plans : List Plan) (good : AreGood plans) w
 
 pub hands_are_within_tries : HandsAreWithinTries
 hands_are_within_tries table plans s i b w session =
-    let opening = run-own_order table plans session.good (record { opening = s.opening; courses = s.courses; kept = []; served = 0 }) session.courses session.legal refl in
+    let opening = run-own_order table plans session.good (record { opening = s.opening; courses = s.courses; kept = []; served = 0 }) session.courses session.legal session.marks refl in
     let stand : HandsStand table plans session.good (now table s) =
     subst (λ xs. HandsStand table plans session.good (advance_all table xs (opening_moment s.opening) s.kept)) (sym session.courses)
     (goes_on-keeps table (courses_of plans) (HandsStand table plans session.good) (advance-hands table plans session.good) (opening_moment s.opening) s.kept

@@ -107,7 +107,7 @@ module _ (table : ConflictRelation) (plans : List Plan) (good : AreGood plans) w
 
 pieces_stand : (table : ConflictRelation) (plans : List Plan) (s : Machine) (session : IsSession table plans s) → PiecesStand table plans session.good (now table s)
 pieces_stand table plans s session =
-    let opening = run-own_order table plans session.good (record { opening = s.opening; courses = s.courses; kept = []; served = 0 }) session.courses session.legal refl in
+    let opening = run-own_order table plans session.good (record { opening = s.opening; courses = s.courses; kept = []; served = 0 }) session.courses session.legal session.marks refl in
     subst (λ xs. PiecesStand table plans session.good (advance_all table xs (opening_moment s.opening) s.kept)) (sym session.courses)
     (goes_on-keeps table (courses_of plans) (PiecesStand table plans session.good) (advance-stand table plans session.good) (opening_moment s.opening) s.kept
     (ap (λ xs. goes_on_from table xs (opening_moment s.opening) s.kept) (sym session.courses) ∙ session.run)

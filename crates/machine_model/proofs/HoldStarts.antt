@@ -75,7 +75,7 @@ module _ (table : ConflictRelation) (plans : List Plan) (good : AreGood plans) (
 
 pub starts_hold_nothing : StartsHoldNothing
 starts_hold_nothing table plans s i session may =
-    let own = run-own_order table plans session.good s session.courses session.legal session.run in
+    let own = run-own_order table plans session.good s session.courses session.legal session.marks session.run in
     let may' = ap (λ xs. may_be_kept table xs (now table s) (Start i)) (sym session.courses) ∙ may in (
       active-start_new (courses_of plans) (now table s).events i own.legal (next table plans session.good (now table s) own i may'),
       subst (λ xs. hold_of xs (advance table xs (now table s) (Start i)) i ≡ idle i) (sym session.courses) (holds_nothing table plans session.good (now table s) own i may'),

@@ -176,5 +176,5 @@ last_pending_is_free table plans s session i (inl opened) next' =
     let facts = session-pending_closed table plans s session in
     ap (λ xs. block_of table xs (now table s) i) session.courses
     ∙ last_free table plans (now table s) facts.fixed.reserved.own.legal
-    (subst (λ xs. All (HasPlansAccess xs) (acts (now table s).events)) session.courses (run-of_plans table s session.run (acts-of_plans table s.courses s.opening session.legal)))
-    (facts.closed (rested table s opened)) i (ap (λ xs. undo_next xs (now table s)) (sym session.courses) ∙ next')
+    (subst (λ xs. All (HasPlansAccess xs) (acts (now table s).events)) session.courses (run-of_plans table s session.run (acts-of_plans table s.courses s.opening.history session.legal)))
+    (facts.closed (rested table plans s session.courses opened)) i (ap (λ xs. undo_next xs (now table s)) (sym session.courses) ∙ next')

@@ -29,7 +29,7 @@ use Rattle.machine_model.specs.declared.kept.Kept.{Kept}
 use Rattle.machine_model.specs.declared.kept.Kept.TheVariants.{Start, Hand, Effect, Refuse, Abort, Victim, Restart}
 use Rattle.machine_model.specs.declared.kept.Work.{Work}
 use Rattle.machine_model.specs.declared.kept.Work.TheVariants.{Forward, Undo, End}
-use Rattle.machine_model.specs.Moment.{Moment, Piece, opening_moment}
+use Rattle.machine_model.specs.Moment.{Moment, Opening, Piece, opening_moment}
 use Rattle.machine_model.specs.Pieces.{piece_of, running_of, runs}
 use Rattle.machine_model.specs.State.{hold_of, owed_soon}
 use Rattle.machine_model.specs.Advance.{Machine, advance, advance_all, event_by, event_of}
@@ -194,18 +194,18 @@ module _ (table : ConflictRelation) (symmetric : IsSymmetric table) (plans : Lis
     legal = legal_after m facts k may;
   }
 
-  pub opening-legal : (h : List Event) → IsTrue (is_legal table cs h) → InOwnOrder table plans good (opening_moment h) → LegalFacts (opening_moment h)
-  opening-legal h legal own = record {
-    circle = opening-circle_free table symmetric plans good h legal own;
-    fixing = opening-fixing_free table symmetric plans good h own;
-    undone = opening-undone_free table symmetric plans good h legal own;
+  pub opening-legal : (o : Opening) → IsTrue (is_legal table cs o.history) → InOwnOrder table plans good (opening_moment o) → LegalFacts (opening_moment o)
+  opening-legal o legal own = record {
+    circle = opening-circle_free table symmetric plans good o legal own;
+    fixing = opening-fixing_free table symmetric plans good o own;
+    undone = opening-undone_free table symmetric plans good o legal own;
     legal = legal;
   }
 
 pub session-legal : (table : ConflictRelation) (plans : List Plan) (s : Machine) (session : IsSession table plans s) → LegalFacts table session.symmetric plans session.good (now table s)
 session-legal table plans s session =
-    let opening = run-own_order table plans session.good (record { opening = s.opening; courses = s.courses; kept = []; served = 0 }) session.courses session.legal refl in
+    let opening = run-own_order table plans session.good (record { opening = s.opening; courses = s.courses; kept = []; served = 0 }) session.courses session.legal session.marks refl in
     subst (λ xs. LegalFacts table session.symmetric plans session.good (advance_all table xs (opening_moment s.opening) s.kept)) (sym session.courses)
     (goes_on-keeps table (courses_of plans) (LegalFacts table session.symmetric plans session.good) (advance-legal table session.symmetric plans session.good) (opening_moment s.opening) s.kept
     (ap (λ xs. goes_on_from table xs (opening_moment s.opening) s.kept) (sym session.courses) ∙ session.run)
-    (opening-legal table session.symmetric plans session.good s.opening (ap (λ xs. is_legal table xs s.opening) (sym session.courses) ∙ session.legal) opening))
+    (opening-legal table session.symmetric plans session.good s.opening (ap (λ xs. is_legal table xs s.opening.history) (sym session.courses) ∙ session.legal) opening))

@@ -25,10 +25,12 @@ pub mod LastElements
 pub mod OpenCascade
 pub mod MachineCourses
 pub mod CoursesRuns
+pub mod MarkCourses
 pub mod SessionCalls
 pub mod WaysOn
 pub mod NextInOrder
 pub mod Ahead
+pub mod Marks
 pub mod OwnOrder
 pub mod OwnOrderLaws
 pub mod GonePieces
@@ -67,6 +69,7 @@ pub mod LastPending
 pub mod WholeLaws
 pub mod Going
 pub mod Causes
+pub mod Started
 pub mod OneLost
 pub mod WithinTries
 pub mod HandsBound

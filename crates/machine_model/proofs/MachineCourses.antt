@@ -19,8 +19,8 @@ use Rattle.schedule_model.proofs.Counts.{filter_same-in}
 use Rattle.schedule_model.proofs.Courses.{SameCourse, doing-courses, hold-courses}
 use Rattle.machine_model.specs.declared.kept.Work.{Work}
 use Rattle.machine_model.specs.declared.kept.Work.TheVariants.{Forward, Undo, End}
-use Rattle.machine_model.specs.declared.began.Cause.{Cause}
-use Rattle.machine_model.specs.declared.began.Cause.TheVariants.{Refused, Cascade}
+use Rattle.schedule_model.specs.declared.marks.Cause.{Cause}
+use Rattle.schedule_model.specs.declared.marks.Cause.TheVariants.{Refused, Cascade}
 use Rattle.machine_model.specs.Blocks.{blocks_of, least_block}
 use Rattle.machine_model.specs.Cascade.{cascade}
 use Rattle.machine_model.specs.Progress.{Progress, Task, above, is_only_try, next_task, staying, way_on}

@@ -33,7 +33,7 @@ use Rattle.machine_model.specs.declared.kept.Kept.TheVariants.{Hand}
 use Rattle.machine_model.specs.declared.kept.Work.{Work}
 use Rattle.machine_model.specs.declared.kept.Work.TheVariants.{Forward, Undo, End}
 use Rattle.machine_model.specs.Progress.{same_work}
-use Rattle.machine_model.specs.Moment.{Moment, Piece, opening_moment}
+use Rattle.machine_model.specs.Moment.{Moment, Opening, Piece, opening_moment}
 use Rattle.machine_model.specs.Pieces.{running_of}
 use Rattle.machine_model.specs.State.{entry_by, entry_of, hold_of, holdings, next_of}
 use Rattle.machine_model.specs.Advance.{Machine, advance, advance_all, event_by}
@@ -284,34 +284,37 @@ module _ (table : ConflictRelation) (symmetric : IsSymmetric table) (plans : Lis
   }
 
   -- at the opening nothing runs, so an arrow is one at rest
-  pub opening-circle_free : (h : List Event) → IsTrue (is_legal table cs h) → InOwnOrder table plans good (opening_moment h) → CircleFree (opening_moment h)
-  opening-circle_free h legal own = record {
-    reserved = opening-reserved_free table symmetric plans good h legal own;
+  pub opening-circle_free : (o : Opening) → IsTrue (is_legal table cs o.history) → InOwnOrder table plans good (opening_moment o) → CircleFree (opening_moment o)
+  opening-circle_free o legal own = record {
+    reserved = opening-reserved_free table symmetric plans good o legal own;
     running = record { own = own; free = λ i k d e a b. absurd (none-some a.0 a.1) };
-    none = λ i w. no-circle table symmetric plans good h legal i (at_opening i i w);
+    none = λ i w. no-circle table symmetric plans good o.history legal i (at_opening i i w);
   }
     where
-      built_on : (a c : ℕ) → BuildsOn table cs (opening_moment h) a c → BuiltOn table cs h a c
+      h : List Event
+      h = o.history
+
+      built_on : (a c : ℕ) → BuildsOn table cs (opening_moment o) a c → BuiltOn table cs h a c
       built_on a c b = by_place b.y_stands
         where
-          by_place : (Among b.y (behind b.x (net h)) × (is_active h (b.y).process ≡ true)) ⊎ IsRunningStep (opening_moment h) cs (b.y).process b.y → BuiltOn table cs h a c
+          by_place : (Among b.y (behind b.x (net h)) × (is_active h (b.y).process ≡ true)) ⊎ IsRunningStep (opening_moment o) cs (b.y).process b.y → BuiltOn table cs h a c
           by_place (inl back) = record { x = b.x; y = b.y; x_stands = b.x_stands; behind_x = back.0; x_active = b.x_active; y_active = back.1; from = b.from; to = b.to; conflicts = b.conflicts }
           by_place (inr runs) = absurd (none-some runs.0 runs.1)
 
       there : (a c : ℕ) → BuiltOn table cs h a c → is_in c (holders (at_rest cs h)) ≡ true
       there a c b = is_holder cs h c ∙ (ap (is_active h) (sym b.to) ∙ b.y_active)
 
-      at_opening : (i k : ℕ) → Path (BuildsOn table cs (opening_moment h)) i k → Walk (Graph table cs h) (holders (at_rest cs h)) i k
+      at_opening : (i k : ℕ) → Path (BuildsOn table cs (opening_moment o)) i k → Walk (Graph table cs h) (holders (at_rest cs h)) i k
       at_opening i k (along b) = let c = built_on i k b in one_arrow (there i k c) (arrow_at_rest table cs h i k c)
       at_opening i k (further {j = j} w b) = let c = built_on j k b in and_then (at_opening i j w) (there j k c) (arrow_at_rest table cs h j k c)
 
 pub session-circle_free : (table : ConflictRelation) (plans : List Plan) (s : Machine) (session : IsSession table plans s) → CircleFree table session.symmetric plans session.good (now table s)
 session-circle_free table plans s session =
-    let opening = run-own_order table plans session.good (record { opening = s.opening; courses = s.courses; kept = []; served = 0 }) session.courses session.legal refl in
+    let opening = run-own_order table plans session.good (record { opening = s.opening; courses = s.courses; kept = []; served = 0 }) session.courses session.legal session.marks refl in
     subst (λ xs. CircleFree table session.symmetric plans session.good (advance_all table xs (opening_moment s.opening) s.kept)) (sym session.courses)
     (goes_on-keeps table (courses_of plans) (CircleFree table session.symmetric plans session.good) (advance-circle_free table session.symmetric plans session.good) (opening_moment s.opening) s.kept
     (ap (λ xs. goes_on_from table xs (opening_moment s.opening) s.kept) (sym session.courses) ∙ session.run)
-    (opening-circle_free table session.symmetric plans session.good s.opening (ap (λ xs. is_legal table xs s.opening) (sym session.courses) ∙ session.legal) opening))
+    (opening-circle_free table session.symmetric plans session.good s.opening (ap (λ xs. is_legal table xs s.opening.history) (sym session.courses) ∙ session.legal) opening))
 
 pub no_circle : NoCircle
 no_circle table plans s session i = ap (λ xs. reaches table (holdings xs (now table s)) i i) session.courses ∙ by_test (reaches table (holdings cs (now table s)) i i) refl

@@ -8,7 +8,6 @@ use Rattle.process_tree.specs.Recovery.{forward}
 use Rattle.process_tree.specs.Shape.{Shape, first_of, goes_on_to}
 use Rattle.process_tree.specs.declared.entry.Entry.{Entry}
 use Rattle.process_tree.specs.declared.plan.Plan.{Plan}
-use Rattle.schedule_model.specs.declared.event.Event.{Event}
 use Rattle.schedule_model.specs.declared.event.Event.TheVariants.{Act, End as Ended}
 use Rattle.schedule_model.specs.Course.{Course, courses_of, shape, access_at}
 use Rattle.schedule_model.specs.Conflict.{ConflictRelation, no_conflict}
@@ -31,7 +30,7 @@ use Rattle.machine_model.specs.declared.kept.Work.{Work}
 use Rattle.machine_model.specs.declared.kept.Work.TheVariants.{Forward, Undo, End}
 use Rattle.machine_model.specs.Progress.{Progress, Task, above, is_only_try, next_task, same_task, same_work, way_on}
 use Rattle.machine_model.specs.ProcessState.{past}
-use Rattle.machine_model.specs.Moment.{Moment, Piece, noted, happened, has_begun, opening_moment}
+use Rattle.machine_model.specs.Moment.{Moment, Opening, Piece, happened, has_begun, noted, opening_moment}
 use Rattle.machine_model.specs.Pieces.{hands, is_try_of, piece_of, refusals, refused_pieces, runs}
 use Rattle.machine_model.specs.State.{next_of, progress, refused_steps}
 use Rattle.machine_model.specs.Advance.{Machine, advance, advance_all, event_by, event_of, piece_refused, with_piece, work_refused, step_refused}
@@ -324,12 +323,12 @@ module _ (table : ConflictRelation) (plans : List Plan) (good : AreGood plans) w
     stand = λ i open'. by_own m k i counts may open' (piece_touched m.kept k) refl;
   }
 
-  pub opening_counts : (h : List Event) → InOwnOrder table plans good (opening_moment h) → CountsStand (opening_moment h)
-  opening_counts h own = record { own = own; no_end = λ i b. refl; stand = λ i open' b w some. absurd (omega arith) }
+  pub opening_counts : (o : Opening) → InOwnOrder table plans good (opening_moment o) → CountsStand (opening_moment o)
+  opening_counts o own = record { own = own; no_end = λ i b. refl; stand = λ i open' b w some. absurd (omega arith) }
 
 pub session-counts : (table : ConflictRelation) (plans : List Plan) (s : Machine) (session : IsSession table plans s) → CountsStand table plans session.good (now table s)
 session-counts table plans s session =
-    let opening = run-own_order table plans session.good (record { opening = s.opening; courses = s.courses; kept = []; served = 0 }) session.courses session.legal refl in
+    let opening = run-own_order table plans session.good (record { opening = s.opening; courses = s.courses; kept = []; served = 0 }) session.courses session.legal session.marks refl in
     subst (λ xs. CountsStand table plans session.good (advance_all table xs (opening_moment s.opening) s.kept)) (sym session.courses)
     (goes_on-keeps table (courses_of plans) (CountsStand table plans session.good) (advance-counts table plans session.good) (opening_moment s.opening) s.kept
     (ap (λ xs. goes_on_from table xs (opening_moment s.opening) s.kept) (sym session.courses) ∙ session.run) (opening_counts table plans session.good s.opening opening))

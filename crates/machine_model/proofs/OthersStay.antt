@@ -20,7 +20,8 @@ use Rattle.machine_model.specs.declared.kept.Work.{Work}
 use Rattle.machine_model.specs.declared.kept.Work.TheVariants.{Forward, Undo, End}
 use Rattle.machine_model.specs.Progress.{Progress, next_task, same_work, staying, is_only_try}
 use Rattle.machine_model.specs.ProcessState.{ProcessState}
-use Rattle.machine_model.specs.Moment.{Moment, Piece, RefusedStep, noted, happened, has_begun, begins_now}
+use Rattle.schedule_model.specs.declared.marks.RefusedStep.{RefusedStep}
+use Rattle.machine_model.specs.Moment.{Moment, Piece, noted, happened, has_begun, begins_now}
 use Rattle.machine_model.specs.Pieces.{hands, piece_of, refusals, refused_pieces, is_refusal, is_try_of, running_of}
 use Rattle.machine_model.specs.State.{progress, process_state, refused_before, refused_steps, next_of, hold_of, entry_of, owed_soon, owed_by_work, owed_by_class, pending_of}
 use Rattle.machine_model.specs.Advance.{advance, with_piece, event_of}

@@ -16,7 +16,7 @@ use Rattle.machine_model.specs.declared.kept.Kept.{Kept}
 use Rattle.machine_model.specs.declared.kept.Kept.TheVariants.{Start, Hand, Effect, Refuse, Abort, Victim, Restart}
 use Rattle.machine_model.specs.declared.kept.Work.{Work}
 use Rattle.machine_model.specs.declared.kept.Work.TheVariants.{Forward, Undo, End}
-use Rattle.machine_model.specs.declared.began.Cause.TheVariants.{Cascade, Refused}
+use Rattle.schedule_model.specs.declared.marks.Cause.TheVariants.{Cascade, Refused}
 use Rattle.machine_model.specs.Progress.{Progress, above, is_only_try, way_on}
 use Rattle.machine_model.specs.ProcessState.{work_done, step_done, past, completing, complete_unless_on}
 use Rattle.machine_model.specs.Moment.{Moment, Piece, noted, happened, has_begun, begins, begins_now}

@@ -1,16 +1,17 @@
 -- The history of each run is in own order.
-use Rattle.std.proofs.Common.{◌≡◌, ℕ, ◌≤◌, Bool, true, false, not, cond, if◌then◌else◌, eqb, ltb, ◌&&◌, ◌||◌, List, [], ◌∷◌, ◌++◌, find, Option, Some, None, is_some, is_none, sym, refl, ap, subst, ◌∙◌, append-nil, arith}
+use Rattle.std.proofs.Common.{◌≡◌, ℕ, ◌≤◌, Bool, true, false, not, cond, if◌then◌else◌, eqb, ltb, ◌&&◌, ◌||◌, List, [], ◌∷◌, ◌++◌, find, Option, Some, None, is_some, is_none, sym, refl, ap, subst, ◌∙◌, append-nil, arith, map, filter}
 use Rattle.std.specs.Bool.{IsTrue}
-use Rattle.std.specs.List.{list_all}
+use Rattle.std.specs.List.{list_all, list_any}
 use Rattle.std.proofs.lemmas.Option.{none-some, same_Some}
 use Rattle.std.proofs.lemmas.Bool.{and_parts, and_from, or_left, or_from, not-true, eqb-true, ltb-true, false≢true}
 use Rattle.process_tree.specs.Conflicts.{same_access}
 use Rattle.process_tree.specs.Order.{Each}
 use Rattle.process_tree.proofs.Every.{Each-weaker, Each-append, Each-both}
 use Rattle.process_tree.specs.Recovery.{forward}
-use Rattle.process_tree.specs.Shape.{first_of, goes_on_to, last_of}
+use Rattle.process_tree.specs.Shape.{first_of, goes_on_to, last_of, can_be_refused, kind_of}
 use Rattle.process_tree.specs.declared.plan.Plan.{Plan}
 use Rattle.schedule_model.specs.declared.event.Event.{Event}
+use Rattle.schedule_model.specs.declared.marks.RefusedStep.{RefusedStep}
 use Rattle.schedule_model.specs.declared.event.Event.TheVariants.{Start as Started, Act, End as Ended}
 use Rattle.schedule_model.specs.Course.{Course, course, courses_of, shape, access_at}
 use Rattle.schedule_model.specs.Conflict.{ConflictRelation, no_conflict}
@@ -22,6 +23,7 @@ use Rattle.schedule_model.specs.Recovery.{owed_steps}
 use Rattle.schedule_model.proofs.Appends.{starts-append, ends-append, is_in-append}
 use Rattle.schedule_model.proofs.GoodPlans.{good_if_goes_on}
 use Rattle.schedule_model.proofs.Induction.{passes-push}
+use Rattle.schedule_model.proofs.Members.{Among, all-among, among-any, any-among, filter-none}
 use Rattle.schedule_model.proofs.NetPaths.{done-below_owed, steps_of-doing}
 use Rattle.schedule_model.proofs.NoConflict.{may_come-no_conflict, own_order-legal, legal-from_own_order}
 use Rattle.schedule_model.proofs.Rising.{all_net_steps}
@@ -31,15 +33,16 @@ use Rattle.machine_model.specs.declared.kept.Kept.{Kept}
 use Rattle.machine_model.specs.declared.kept.Kept.TheVariants.{Start, Hand, Effect, Refuse, Abort, Victim, Restart}
 use Rattle.machine_model.specs.declared.kept.Work.{Work}
 use Rattle.machine_model.specs.declared.kept.Work.TheVariants.{Forward, Undo, End}
-use Rattle.machine_model.specs.declared.began.Cause.{Cause}
+use Rattle.schedule_model.specs.declared.marks.Cause.{Cause}
 use Rattle.machine_model.specs.Progress.{Progress, above, is_only_try, next_forward, next_task, pending_steps, same_task, same_work, step_or_end, undo_or, way_on}
 use Rattle.machine_model.specs.ProcessState.{past}
-use Rattle.machine_model.specs.Moment.{Moment, Piece, noted, happened, begins_now, without, opening_moment}
+use Rattle.machine_model.specs.Moment.{Moment, Opening, Piece, begins_now, happened, noted, opening_moment, without, on_history}
 use Rattle.machine_model.specs.Pieces.{piece_of, running_of, runs}
 use Rattle.machine_model.specs.State.{is_exhausted, block_of, next_of, progress, refused_steps}
 use Rattle.machine_model.specs.Advance.{Machine, advance, advance_all, event_by, event_of, with_piece}
 use Rattle.machine_model.specs.Runs.{goes_on_from, is_no_end, is_run, may_be_kept, now, start_refusal}
 use Rattle.machine_model.specs.PieceLaws.{piece_ended}
+use Rattle.machine_model.specs.Sound.{do_marks_belong, is_ahead, is_refusal_of}
 use Rattle.machine_model.proofs.Counting.{found-any}
 use Rattle.machine_model.proofs.CallsKept.{find-passes}
 use Rattle.machine_model.proofs.RunInduction.{entered, advance-keeps, goes_on-keeps}
@@ -51,6 +54,7 @@ use Rattle.machine_model.proofs.OwnEvents.{step-effected, own-effected, own-refu
 use Rattle.machine_model.proofs.WaysOn.{way_on-is}
 use Rattle.machine_model.proofs.NextInOrder.{OwedIsAhead, last_none, next_keeps}
 use Rattle.machine_model.proofs.Ahead.{done_ahead, refused_ahead}
+use Rattle.machine_model.proofs.Marks.{ahead_from, marks-parts}
 
 -- work that is the same is equal
 pub same_work-is : (a b : Work) → same_work a b ≡ true → a ≡ b
@@ -296,17 +300,41 @@ module _ (table : ConflictRelation) (plans : List Plan) (good : AreGood plans) w
     ahead = advance-keeps Ahead (λ cause n i never is. ahead_begins cause n i is) table cs m k (ahead_entered m k own may);
   }
 
-  opening_ahead : (h : List Event) → IsTrue (is_legal no_conflict cs h) → Ahead (opening_moment h)
-  opening_ahead h legal i b rest owes =
+  -- by the history alone, what a process owes is ahead of all that it did
+  history_ahead : (h : List Event) → IsTrue (is_legal no_conflict cs h) → Ahead (opening_moment (on_history h))
+  history_ahead h legal i b rest owes =
       let most = above_most (done_steps h i) b (done-below_owed plans good i h legal b rest owes) in
       let same = ap above (append-nil (done_steps h i)) in
       omega arith
 
+  -- so it is at an opening, where no step of the process was refused
+  unrefused_ahead : (o : Opening) → IsTrue (is_legal no_conflict cs o.history) → (i : ℕ) → list_any (λ (r : RefusedStep). eqb r.process i) o.refused ≡ false → OwedIsAhead (progress cs (opening_moment o) i)
+  unrefused_ahead o legal i none b rest owes =
+      let nothing : filter (λ (r : RefusedStep). eqb r.process i) o.refused ≡ [] = filter-none (λ (r : RefusedStep). eqb r.process i) o.refused (λ r among. fails r among (eqb r.process i) refl) in
+      subst (λ rs. above (done_steps o.history i ++ (map (λ (r : RefusedStep). r.step) rs ++ [])) ≤ b) (sym nothing) (history_ahead o.history legal i b rest owes)
+    where
+      fails : (r : RefusedStep) → Among r o.refused → (t : Bool) → eqb r.process i ≡ t → eqb r.process i ≡ false
+      fails r among false is = is
+      fails r among true is = absurd (false≢true (sym none ∙ any-among (λ (q : RefusedStep). eqb q.process i) r o.refused among is))
+
+  -- and where one was, as the refusal belongs to the history
+  opening_ahead : (o : Opening) → IsTrue (is_legal no_conflict cs o.history) → list_all (is_refusal_of cs o) o.refused ≡ true → Ahead (opening_moment o)
+  opening_ahead o legal refused i = by_refused (list_any (λ (r : RefusedStep). eqb r.process i) o.refused) refl
+    where
+      by_refused : (t : Bool) → list_any (λ (r : RefusedStep). eqb r.process i) o.refused ≡ t → OwedIsAhead (progress cs (opening_moment o) i)
+      by_refused true some =
+          let r = among-any (λ (r : RefusedStep). eqb r.process i) o.refused some in
+          let well = all-among (is_refusal_of cs o) o.refused refused r.0 r.1 in
+          let is = (and_parts (is_in r.0.process (starts o.history) && can_be_refused (kind_of (shape cs r.0.process) r.0.step)) (is_ahead (progress cs (opening_moment o) r.0.process)) well).1 in
+          subst (λ j. OwedIsAhead (progress cs (opening_moment o) j)) (eqb-true r.0.process i r.2) (ahead_from (progress cs (opening_moment o) r.0.process) is)
+      by_refused false none = unrefused_ahead o legal i none
+
   -- so it is all along a run
-  pub run-own_order : (s : Machine) → s.courses ≡ courses_of plans → IsTrue (is_legal table s.courses s.opening) → IsTrue (is_run table s) → InOwnOrder (now table s)
-  run-own_order s courses legal run =
-      let opening : IsTrue (is_legal table cs s.opening) = ap (λ xs. is_legal table xs s.opening) (sym courses) ∙ legal in
-      let own = legal-from_own_order cs s.opening (own_order-legal cs table s.opening opening) in
+  pub run-own_order : (s : Machine) → s.courses ≡ courses_of plans → IsTrue (is_legal table s.courses s.opening.history) → IsTrue (do_marks_belong s.courses s.opening) → IsTrue (is_run table s) → InOwnOrder (now table s)
+  run-own_order s courses legal marks run =
+      let opening : IsTrue (is_legal table cs s.opening.history) = ap (λ xs. is_legal table xs s.opening.history) (sym courses) ∙ legal in
+      let own = legal-from_own_order cs s.opening.history (own_order-legal cs table s.opening.history opening) in
+      let refused = (marks-parts cs s.opening (ap (λ xs. do_marks_belong xs s.opening) (sym courses) ∙ marks)).1 in
       subst (λ xs. InOwnOrder (advance_all table xs (opening_moment s.opening) s.kept)) (sym courses)
       (goes_on-keeps table cs InOwnOrder advance-own_order (opening_moment s.opening) s.kept (ap (λ xs. goes_on_from table xs (opening_moment s.opening) s.kept) (sym courses) ∙ run)
-      (record { order = record { tidy = opening-tidy s.opening; next = tt }; active = tt; legal = own; ahead = opening_ahead s.opening own }))
+      (record { order = record { tidy = opening-tidy s.opening; next = tt }; active = tt; legal = own; ahead = opening_ahead s.opening own refused }))

@@ -40,7 +40,7 @@ use Rattle.machine_model.proofs.OwnOrder.{InOwnOrder, out_piece, piece_keeps, ru
 
 module _ (table : ConflictRelation) (plans : List Plan) (s : Machine) (session : IsSession table plans s) where
   pub session-own_order : InOwnOrder table plans session.good (now table s)
-  session-own_order = run-own_order table plans session.good s session.courses session.legal session.run
+  session-own_order = run-own_order table plans session.good s session.courses session.legal session.marks session.run
 
 pub runs_keep_own_order : RunsKeepOwnOrder
 runs_keep_own_order table plans s session =

@@ -1,6 +1,7 @@
--- Where the machine opened at rest, or a restart is kept: what stands behind a pending entry and conflicts with it is pending.
+-- Where the machine opened closed under cascades, or a restart is kept: what stands behind a pending entry and conflicts with it is pending.
 use Rattle.std.proofs.Common.{◌≡◌, ◌⊎◌, inl, inr, ℕ, Bool, true, false, not, eqb, ◌||◌, List, [], ◌∷◌, filter, if◌then◌else◌, Some, sym, refl, ap, subst, ◌∙◌}
 use Rattle.std.specs.Bool.{IsTrue}
+use Rattle.std.specs.List.{list_all}
 use Rattle.std.proofs.lemmas.Bool.{and_from, and_parts, eqb-true, eq-eqb, false≢true, or_left, or_right}
 use Rattle.process_tree.specs.declared.entry.Entry.{Entry}
 use Rattle.process_tree.specs.declared.plan.Plan.{Plan}
@@ -15,19 +16,20 @@ use Rattle.schedule_model.specs.Recovery.{backward_entries}
 use Rattle.schedule_model.proofs.Active.{is_active-is_in, is_in-filter}
 use Rattle.schedule_model.proofs.Behind.{among_behind, has_step}
 use Rattle.schedule_model.proofs.Conflicts.{conflict-itself}
-use Rattle.schedule_model.proofs.Members.{Among, among-append, among-from_contains, in_flat_map}
+use Rattle.schedule_model.proofs.Members.{Among, all-among, among-append, among-from_contains, among-is_in, in_flat_map}
 use Rattle.schedule_model.proofs.Started.{among_net_of, net-started}
 use Rattle.machine_model.specs.declared.kept.Kept.{Kept}
 use Rattle.machine_model.specs.declared.kept.Kept.TheVariants.{Restart}
-use Rattle.machine_model.specs.declared.began.Cause.TheVariants.{Cascade}
+use Rattle.schedule_model.specs.declared.marks.Cause.TheVariants.{Cascade}
 use Rattle.machine_model.specs.Cascade.{backward_of}
-use Rattle.machine_model.specs.Moment.{Moment, has_begun, opening_moment}
+use Rattle.machine_model.specs.Moment.{Moment, Opening, has_begun, opening_moment}
 use Rattle.machine_model.specs.Pieces.{running_of}
 use Rattle.machine_model.specs.Progress.{staying}
 use Rattle.machine_model.specs.State.{hold_of, holdings, is_pending, pending_of, progress}
 use Rattle.machine_model.specs.Advance.{Machine, advance, advance_all, cascade_of}
 use Rattle.machine_model.specs.Runs.{goes_on_from, may_be_kept, now}
-use Rattle.machine_model.specs.Laws.{IsRunningStep, IsSession, OpenedAtRest, PendingIsClosed}
+use Rattle.machine_model.specs.Laws.{IsRunningStep, IsSession, OpenedClosed, PendingIsClosed}
+use Rattle.machine_model.specs.Sound.{is_closed, is_closed_behind}
 use Rattle.machine_model.proofs.Begun.{advance-begun, all_begin-has}
 use Rattle.machine_model.proofs.BehindBefore.{StepNow, behind_before}
 use Rattle.machine_model.proofs.CascadePaths.{dragged_by_net, path_to_member}
@@ -154,28 +156,28 @@ module _ (table : ConflictRelation) (symmetric : IsSymmetric table) (plans : Lis
         by_test true same = absurd (by_root (eqb-true b.root x.process same))
         by_test false other = by_begun other (has_begun m x.process) refl (has_begun (advance table cs m k) x.process) refl
 
-  pub record ClosedFacts (h : List Event) (m : Moment) : Type 0 where
+  pub record ClosedFacts (o : Opening) (m : Moment) : Type 0 where
     pub pending : PendingFree table symmetric plans good m
     pub fixed : FixedFacts table symmetric plans good m
     pub ended : EndedFacts table symmetric plans good m
     pub circle : CircleFree table symmetric plans good m
-    pub closed : (active h ≡ []) ⊎ Among Restart m.kept → (x e : Entry) → is_active m.events x.process ≡ true → Among x (pending_of (courses_of plans) m x.process) → Among e (behind x (net m.events)) → conflict table x e ≡ true
+    pub closed : (is_closed table (courses_of plans) (opening_moment o) ≡ true) ⊎ Among Restart m.kept → (x e : Entry) → is_active m.events x.process ≡ true → Among x (pending_of (courses_of plans) m x.process) → Among e (behind x (net m.events)) → conflict table x e ≡ true
         → is_pending (courses_of plans) m e ≡ true
 
-  module _ (h : List Event) (m : Moment) (k : Kept) (facts : ClosedFacts h m) (may : may_be_kept table cs m k ≡ true) where
+  module _ (o : Opening) (m : Moment) (k : Kept) (facts : ClosedFacts o m) (may : may_be_kept table cs m k ≡ true) where
     own : InOwnOrder table plans good m
     own = facts.fixed.reserved.own
 
-    rested_before : (active h ≡ []) ⊎ Among Restart (advance table cs m k).kept → ((active h ≡ []) ⊎ Among Restart m.kept) ⊎ (k ≡ Restart)
+    rested_before : (is_closed table (courses_of plans) (opening_moment o) ≡ true) ⊎ Among Restart (advance table cs m k).kept → ((is_closed table (courses_of plans) (opening_moment o) ≡ true) ⊎ Among Restart m.kept) ⊎ (k ≡ Restart)
     rested_before (inl none) = inl (inl none)
     rested_before (inr is) = by_place (among-append Restart m.kept (k ∷ []) (subst (Among Restart) (advances table cs m k).kept is))
       where
-        by_place : Among Restart m.kept ⊎ Among Restart (k ∷ []) → ((active h ≡ []) ⊎ Among Restart m.kept) ⊎ (k ≡ Restart)
+        by_place : Among Restart m.kept ⊎ Among Restart (k ∷ []) → ((is_closed table (courses_of plans) (opening_moment o) ≡ true) ⊎ Among Restart m.kept) ⊎ (k ≡ Restart)
         by_place (inl before) = inl (inr before)
         by_place (inr (inl same)) = inr same
         by_place (inr (inr none)) = absurd none
 
-    closed_after : (active h ≡ []) ⊎ Among Restart (advance table cs m k).kept → (x e : Entry) → is_active (advance table cs m k).events x.process ≡ true → Among x (pending_of cs (advance table cs m k) x.process)
+    closed_after : (is_closed table (courses_of plans) (opening_moment o) ≡ true) ⊎ Among Restart (advance table cs m k).kept → (x e : Entry) → is_active (advance table cs m k).events x.process ≡ true → Among x (pending_of cs (advance table cs m k) x.process)
         → Among e (behind x (net (advance table cs m k).events)) → conflict table x e ≡ true → is_pending cs (advance table cs m k) e ≡ true
     closed_after rested x e goes pend back conflicts = by_begun (has_begun (advance table cs m k) e.process) refl
       where
@@ -198,7 +200,7 @@ module _ (table : ConflictRelation) (symmetric : IsSymmetric table) (plans : Lis
         source = behind_before table plans good m k x e own may there back
 
         -- x was pending
-        old : (active h ≡ []) ⊎ Among Restart m.kept → has_begun (advance table cs m k) e.process ≡ false → Among x (pending_of cs m x.process) → is_pending cs (advance table cs m k) e ≡ true
+        old : (is_closed table (courses_of plans) (opening_moment o) ≡ true) ⊎ Among Restart m.kept → has_begun (advance table cs m k) e.process ≡ false → Among x (pending_of cs m x.process) → is_pending cs (advance table cs m k) e ≡ true
         old rest never was = by_place source.1
           where
             by_place : Among e (behind x (net m.events)) ⊎ StepNow cs m k e → is_pending cs (advance table cs m k) e ≡ true
@@ -211,7 +213,7 @@ module _ (table : ConflictRelation) (symmetric : IsSymmetric table) (plans : Lis
                 (p, subst (λ j. running_of m j ≡ Some p) its (out_runs m step.number p own.order.tidy (ap (may_be_kept table cs m) (sym step.is_effect) ∙ may) step.found), step.is_step, step.is ∙ ap (λ j. doing cs j p.step) its) in
                 absurd (false≢true (sym (facts.pending.free x.process e.process x e (before x source.0 goes) was ran) ∙ conflicts))
 
-        by_back : (active h ≡ []) ⊎ Among Restart m.kept → has_begun (advance table cs m k) e.process ≡ false → Back table symmetric plans good m k → is_pending cs (advance table cs m k) e ≡ true
+        by_back : (is_closed table (courses_of plans) (opening_moment o) ≡ true) ⊎ Among Restart m.kept → has_begun (advance table cs m k) e.process ≡ false → Back table symmetric plans good m k → is_pending cs (advance table cs m k) e ≡ true
         by_back rest never b =
             let same : (advance table cs m k).events ≡ m.events = ap (λ (n : Moment). n.events) b.is ∙ (dragged_events table symmetric plans good b.mid b.root ∙ b.events) in
             let back' = subst (λ g. Among e (behind x (net g))) same back in
@@ -226,49 +228,58 @@ module _ (table : ConflictRelation) (symmetric : IsSymmetric table) (plans : Lis
             at_restart event =
                 absurd (false≢true (sym never ∙ (ap (λ y. has_begun (advance table cs m y) e.process) event ∙ restart_begins_all table cs m e.process (subst (λ y. is_active (advance table cs m y).events e.process ≡ true) event e_goes))))
 
-            by_source : (active h ≡ []) ⊎ Among Restart m.kept → Among x (pending_of cs m x.process) ⊎ (Back table symmetric plans good m k ⊎ (k ≡ Restart)) → is_pending cs (advance table cs m k) e ≡ true
+            by_source : (is_closed table (courses_of plans) (opening_moment o) ≡ true) ⊎ Among Restart m.kept → Among x (pending_of cs m x.process) ⊎ (Back table symmetric plans good m k ⊎ (k ≡ Restart)) → is_pending cs (advance table cs m k) e ≡ true
             by_source rest (inl was) = old rest never was
             by_source rest (inr (inl b)) = by_back rest never b
             by_source rest (inr (inr event)) = at_restart event
 
-            by_rest : ((active h ≡ []) ⊎ Among Restart m.kept) ⊎ (k ≡ Restart) → is_pending cs (advance table cs m k) e ≡ true
+            by_rest : ((is_closed table (courses_of plans) (opening_moment o) ≡ true) ⊎ Among Restart m.kept) ⊎ (k ≡ Restart) → is_pending cs (advance table cs m k) e ≡ true
             by_rest (inr event) = at_restart event
             by_rest (inl rest) = by_source rest (pending_before table symmetric plans good m k facts.pending may x.process x goes pend)
 
-  pub advance-pending_closed : (h : List Event) (m : Moment) (k : Kept) → ClosedFacts h m → may_be_kept table cs m k ≡ true → ClosedFacts h (advance table cs m k)
-  advance-pending_closed h m k facts may = record {
+  pub advance-pending_closed : (o : Opening) (m : Moment) (k : Kept) → ClosedFacts o m → may_be_kept table cs m k ≡ true → ClosedFacts o (advance table cs m k)
+  advance-pending_closed o m k facts may = record {
     pending = advance-pending_free table symmetric plans good m k facts.pending may;
     fixed = advance-fixed_free table symmetric plans good m k facts.fixed may;
     ended = advance-ended_free table symmetric plans good m k facts.ended may;
     circle = advance-circle_free table symmetric plans good m k facts.circle may;
-    closed = closed_after h m k facts may;
+    closed = closed_after o m k facts may;
   }
 
-  pub opening-pending_closed : (h : List Event) → IsTrue (is_legal table cs h) → InOwnOrder table plans good (opening_moment h) → ClosedFacts h (opening_moment h)
-  opening-pending_closed h legal own = record {
-    pending = opening-pending_free table symmetric plans good h legal own;
-    fixed = opening-fixed_free table symmetric plans good h legal own;
-    ended = opening-ended_free table symmetric plans good h legal own;
-    circle = opening-circle_free table symmetric plans good h legal own;
-    closed = λ rested x e goes pend back conflicts. absurd (none_active rested x goes);
+  pub opening-pending_closed : (o : Opening) → IsTrue (is_legal table cs o.history) → InOwnOrder table plans good (opening_moment o) → ClosedFacts o (opening_moment o)
+  opening-pending_closed o legal own = record {
+    pending = opening-pending_free table symmetric plans good o legal own;
+    fixed = opening-fixed_free table symmetric plans good o legal own;
+    ended = opening-ended_free table symmetric plans good o legal own;
+    circle = opening-circle_free table symmetric plans good o legal own;
+    closed = λ rested x e goes pend back conflicts. by_opening rested x e goes pend back conflicts;
   }
     where
-      none_active : (active h ≡ []) ⊎ Among Restart (opening_moment h).kept → (x : Entry) → is_active h x.process ≡ true → ⊥
-      none_active (inl none) x goes = false≢true (ap (is_in x.process) (sym none) ∙ (is_active-is_in h x.process ∙ goes))
-      none_active (inr none) x goes = none
+      h : List Event
+      h = o.history
+
+      by_opening : (is_closed table cs (opening_moment o) ≡ true) ⊎ Among Restart (opening_moment o).kept → (x e : Entry) → is_active h x.process ≡ true → Among x (pending_of cs (opening_moment o) x.process)
+          → Among e (behind x (net h)) → conflict table x e ≡ true → is_pending cs (opening_moment o) e ≡ true
+      by_opening (inr none) x e goes pend back conflicts = absurd none
+      by_opening (inl closed) x e goes pend back conflicts =
+          let one = all-among (λ i. list_all (is_closed_behind table cs (opening_moment o)) (pending_of cs (opening_moment o) i)) (active h) closed x.process (among-is_in x.process (active h) (is_active-is_in h x.process ∙ goes)) in
+          let two = all-among (is_closed_behind table cs (opening_moment o)) (pending_of cs (opening_moment o) x.process) one x pend in
+          let three = all-among (λ (y : Entry). not (conflict table x y) || is_pending cs (opening_moment o) y) (behind x (net h)) two e back in
+          sym (ap (λ t. not t || is_pending cs (opening_moment o) e) conflicts) ∙ three
 
 pub session-pending_closed : (table : ConflictRelation) (plans : List Plan) (s : Machine) (session : IsSession table plans s) → ClosedFacts table session.symmetric plans session.good s.opening (now table s)
 session-pending_closed table plans s session =
-    let opening = run-own_order table plans session.good (record { opening = s.opening; courses = s.courses; kept = []; served = 0 }) session.courses session.legal refl in
+    let opening = run-own_order table plans session.good (record { opening = s.opening; courses = s.courses; kept = []; served = 0 }) session.courses session.legal session.marks refl in
     subst (λ xs. ClosedFacts table session.symmetric plans session.good s.opening (advance_all table xs (opening_moment s.opening) s.kept)) (sym session.courses)
     (goes_on-keeps table (courses_of plans) (ClosedFacts table session.symmetric plans session.good s.opening) (advance-pending_closed table session.symmetric plans session.good s.opening) (opening_moment s.opening) s.kept
     (ap (λ xs. goes_on_from table xs (opening_moment s.opening) s.kept) (sym session.courses) ∙ session.run)
-    (opening-pending_closed table session.symmetric plans session.good s.opening (ap (λ xs. is_legal table xs s.opening) (sym session.courses) ∙ session.legal) opening))
+    (opening-pending_closed table session.symmetric plans session.good s.opening (ap (λ xs. is_legal table xs s.opening.history) (sym session.courses) ∙ session.legal) opening))
 
 -- the same premise, along the run
-pub rested : (table : ConflictRelation) (s : Machine) → OpenedAtRest s → (active s.opening ≡ []) ⊎ Among Restart (now table s).kept
-rested table s (inl none) = inl none
-rested table s (inr is) = inr (subst (Among Restart) (sym (now-kept table s)) (among-from_contains Restart s.kept is))
+pub rested : (table : ConflictRelation) (plans : List Plan) (s : Machine) → s.courses ≡ courses_of plans → OpenedClosed table s
+    → (is_closed table (courses_of plans) (opening_moment s.opening) ≡ true) ⊎ Among Restart (now table s).kept
+rested table plans s courses (inl closed) = inl (ap (λ cs. is_closed table cs (opening_moment s.opening)) (sym courses) ∙ closed)
+rested table plans s courses (inr is) = inr (subst (Among Restart) (sym (now-kept table s)) (among-from_contains Restart s.kept is))
 
 pub pending_is_closed : PendingIsClosed
 pending_is_closed table plans s session i x e opened goes pend back conflicts =
@@ -276,5 +287,5 @@ pending_is_closed table plans s session i x e opened goes pend back conflicts =
     let mine = subst (λ xs. Among x (pending_of xs m i)) session.courses (among-from_contains x (pending_of s.courses m i) pend) in
     let found = among_net_of m.events i x (in_whole x (staying (progress (courses_of plans) m i)) (net_of m.events i) mine) in
     ap (λ xs. is_pending xs m e) session.courses
-    ∙ (session-pending_closed table plans s session).closed (rested table s opened) x e (ap (is_active m.events) found.1 ∙ goes) (subst (λ j. Among x (pending_of (courses_of plans) m j)) (sym found.1) mine)
+    ∙ (session-pending_closed table plans s session).closed (rested table plans s session.courses opened) x e (ap (is_active m.events) found.1 ∙ goes) (subst (λ j. Among x (pending_of (courses_of plans) m j)) (sym found.1) mine)
     (among-from_contains e (behind x (net m.events)) back) conflicts

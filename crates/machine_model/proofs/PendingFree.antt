@@ -10,7 +10,6 @@ use Rattle.process_tree.specs.declared.plan.Plan.{Plan}
 use Rattle.process_tree.specs.Recovery.{forward}
 use Rattle.process_tree.specs.Shape.{can_be_refused, first_of, fixed_len, kind_of, last_of}
 use Rattle.process_tree.proofs.Fixed.{fixed_le}
-use Rattle.schedule_model.specs.declared.event.Event.{Event}
 use Rattle.schedule_model.specs.declared.event.Event.TheVariants.{Act}
 use Rattle.schedule_model.specs.Course.{Course, courses_of, shape}
 use Rattle.schedule_model.specs.Conflict.{ConflictRelation, IsSymmetric, conflict, no_conflict}
@@ -32,11 +31,11 @@ use Rattle.machine_model.specs.declared.kept.Kept.{Kept}
 use Rattle.machine_model.specs.declared.kept.Kept.TheVariants.{Start, Hand, Effect, Refuse, Abort, Victim, Restart}
 use Rattle.machine_model.specs.declared.kept.Work.{Work}
 use Rattle.machine_model.specs.declared.kept.Work.TheVariants.{Forward, Undo, End}
-use Rattle.machine_model.specs.declared.began.Cause.{Cause}
-use Rattle.machine_model.specs.declared.began.Cause.TheVariants.{Abort as Aborted, Cascade, Refused, Restart as Restarted, Victim as WasVictim}
+use Rattle.schedule_model.specs.declared.marks.Cause.{Cause}
+use Rattle.schedule_model.specs.declared.marks.Cause.TheVariants.{Abort as Aborted, Cascade, Refused, Restart as Restarted, Victim as WasVictim}
 use Rattle.machine_model.specs.Progress.{Progress, is_only_try, next_task, same_task, staying, way_on}
 use Rattle.machine_model.specs.ProcessState.{last_undone, past, step_done, work_done}
-use Rattle.machine_model.specs.Moment.{Moment, Piece, begins, begins_now, happened, has_begun, noted, opening_moment}
+use Rattle.machine_model.specs.Moment.{Moment, Opening, Piece, begins, begins_now, happened, has_begun, noted, opening_moment}
 use Rattle.machine_model.specs.Pieces.{piece_of, running_of, runs}
 use Rattle.machine_model.specs.PieceLaws.{piece_ended, with_begun}
 use Rattle.machine_model.specs.State.{hold_of, holdings, pending_of, progress}
@@ -552,19 +551,19 @@ module _ (table : ConflictRelation) (symmetric : IsSymmetric table) (plans : Lis
     free = λ i j x e goes pend runs. free_after m k facts may i j x e goes pend runs;
   }
 
-  pub opening-pending_free : (h : List Event) → IsTrue (is_legal table cs h) → InOwnOrder table plans good (opening_moment h) → PendingFree (opening_moment h)
-  opening-pending_free h legal own = record {
-    reserved = opening-reserved_free table symmetric plans good h legal own;
+  pub opening-pending_free : (o : Opening) → IsTrue (is_legal table cs o.history) → InOwnOrder table plans good (opening_moment o) → PendingFree (opening_moment o)
+  opening-pending_free o legal own = record {
+    reserved = opening-reserved_free table symmetric plans good o legal own;
     free = λ i j x e goes pend runs. absurd (none-some runs.0 runs.1);
   }
 
 pub session-pending_free : (table : ConflictRelation) (plans : List Plan) (s : Machine) (session : IsSession table plans s) → PendingFree table session.symmetric plans session.good (now table s)
 session-pending_free table plans s session =
-    let opening = run-own_order table plans session.good (record { opening = s.opening; courses = s.courses; kept = []; served = 0 }) session.courses session.legal refl in
+    let opening = run-own_order table plans session.good (record { opening = s.opening; courses = s.courses; kept = []; served = 0 }) session.courses session.legal session.marks refl in
     subst (λ xs. PendingFree table session.symmetric plans session.good (advance_all table xs (opening_moment s.opening) s.kept)) (sym session.courses)
     (goes_on-keeps table (courses_of plans) (PendingFree table session.symmetric plans session.good) (advance-pending_free table session.symmetric plans session.good) (opening_moment s.opening) s.kept
     (ap (λ xs. goes_on_from table xs (opening_moment s.opening) s.kept) (sym session.courses) ∙ session.run)
-    (opening-pending_free table session.symmetric plans session.good s.opening (ap (λ xs. is_legal table xs s.opening) (sym session.courses) ∙ session.legal) opening))
+    (opening-pending_free table session.symmetric plans session.good s.opening (ap (λ xs. is_legal table xs s.opening.history) (sym session.courses) ∙ session.legal) opening))
 
 pub pending_is_free : PendingIsFree
 pending_is_free table plans s session i k x e goes pend runs =

@@ -10,7 +10,7 @@ use Rattle.schedule_model.specs.Course.{Course}
 use Rattle.schedule_model.specs.Conflict.{ConflictRelation}
 use Rattle.machine_model.specs.declared.kept.Kept.{Kept}
 use Rattle.machine_model.specs.declared.kept.Kept.TheVariants.{Start, Hand, Effect, Refuse, Abort, Victim, Restart}
-use Rattle.machine_model.specs.Moment.{Moment, Piece, Lost, noted, happened, without, of_others, losses, opening_moment, out_after}
+use Rattle.machine_model.specs.Moment.{Lost, Moment, Opening, Piece, happened, losses, noted, of_others, opening_moment, out_after, without}
 use Rattle.machine_model.specs.Pieces.{hands, is_effect, is_refusal, runs, piece_of}
 use Rattle.machine_model.specs.Advance.{Machine, advance, with_piece, event_of}
 use Rattle.machine_model.specs.Runs.{is_run, now, may_be_kept}
@@ -169,8 +169,8 @@ module _ (table : ConflictRelation) (courses : List Course) where
   pub advance-counted : (m : Moment) (k : Kept) → Counted m → may_be_kept table courses m k ≡ true → Counted (advance table courses m k)
   advance-counted m k c may = advance-keeps Counted beginnings-counted table courses m k (entered-counted m k c may)
 
-pub opening-counted : (h : List Event) → Counted (opening_moment h)
-opening-counted h = record { parted = λ n. refl; once = λ n. omega arith; fresh = λ n late. refl }
+pub opening-counted : (o : Opening) → Counted (opening_moment o)
+opening-counted o = record { parted = λ n. refl; once = λ n. omega arith; fresh = λ n late. refl }
 
 -- so it is all along a run
 pub run-counted : (table : ConflictRelation) (s : Machine) → IsTrue (is_run table s) → Counted (now table s)

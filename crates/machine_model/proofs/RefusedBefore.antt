@@ -1,5 +1,5 @@
 -- The steps that were refused before the opening stay as they are.
-use Rattle.std.proofs.Common.{◌≡◌, List, [], Option, Some, None, refl, ◌∙◌}
+use Rattle.std.proofs.Common.{◌≡◌, List, Option, Some, None, refl, ◌∙◌}
 use Rattle.std.specs.Bool.{IsTrue}
 use Rattle.schedule_model.specs.Course.{Course}
 use Rattle.schedule_model.specs.Conflict.{ConflictRelation}
@@ -28,6 +28,6 @@ entered_refused courses m Restart = refl
 pub refused-stay : (table : ConflictRelation) (courses : List Course) (m : Moment) (k : Kept) → (advance table courses m k).refused ≡ m.refused
 refused-stay table courses m k = advance-keeps (λ n. n.refused ≡ m.refused) (λ cause n i never is. is) table courses m k (entered_refused courses m k)
 
--- so a run that opens on a history has none
-pub none-refused_before : (table : ConflictRelation) (s : Machine) → IsTrue (is_run table s) → (now table s).refused ≡ []
-none-refused_before table s run = run-keeps table s (λ m. m.refused ≡ []) (λ m k none may. refused-stay table s.courses m k ∙ none) run refl
+-- so along a run they are those of the opening
+pub refused-opened : (table : ConflictRelation) (s : Machine) → IsTrue (is_run table s) → (now table s).refused ≡ s.opening.refused
+refused-opened table s run = run-keeps table s (λ m. m.refused ≡ s.opening.refused) (λ m k same may. refused-stay table s.courses m k ∙ same) run refl

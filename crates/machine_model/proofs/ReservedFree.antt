@@ -29,7 +29,7 @@ use Rattle.machine_model.specs.declared.kept.Kept.{Kept}
 use Rattle.machine_model.specs.declared.kept.Kept.TheVariants.{Start, Hand, Effect, Refuse, Abort, Victim, Restart}
 use Rattle.machine_model.specs.declared.kept.Work.{Work}
 use Rattle.machine_model.specs.declared.kept.Work.TheVariants.{Forward, Undo, End}
-use Rattle.machine_model.specs.Moment.{Moment, Piece, opening_moment}
+use Rattle.machine_model.specs.Moment.{Moment, Opening, Piece, opening_moment}
 use Rattle.machine_model.specs.Pieces.{piece_of, running_of}
 use Rattle.machine_model.specs.State.{hold_of, holdings, owed_by_class, owed_soon}
 use Rattle.machine_model.specs.Advance.{Machine, advance, advance_all, event_by}
@@ -236,24 +236,27 @@ module _ (table : ConflictRelation) (symmetric : IsSymmetric table) (plans : Lis
   }
 
   -- at the opening
-  pub opening-reserved_free : (h : List Event) → IsTrue (is_legal table cs h) → InOwnOrder table plans good (opening_moment h) → ReservedFree (opening_moment h)
-  opening-reserved_free h legal own = record { own = own; free = λ i k r e goes other owes stands. by_stands i k r e goes other (subst (Among r) (append-nil (owed cs h i)) owes) stands }
+  pub opening-reserved_free : (o : Opening) → IsTrue (is_legal table cs o.history) → InOwnOrder table plans good (opening_moment o) → ReservedFree (opening_moment o)
+  opening-reserved_free o legal own = record { own = own; free = λ i k r e goes other owes stands. by_stands i k r e goes other (subst (Among r) (append-nil (owed cs h i)) owes) stands }
     where
+      h : List Event
+      h = o.history
+
       facts : OwedFree table symmetric plans good h
       facts = owed-free table symmetric plans good h legal
 
-      by_stands : (i k : ℕ) (r e : Entry) → is_active h i ≡ true → is_active h k ≡ true → Among r (owed cs h i) → Stands cs (opening_moment h) k e → conflict table r e ≡ false
+      by_stands : (i k : ℕ) (r e : Entry) → is_active h i ≡ true → is_active h k ≡ true → Among r (owed cs h i) → Stands cs (opening_moment o) k e → conflict table r e ≡ false
       by_stands i k r e goes other owes (inl (inl done)) = let found = among_net_of h k e done in facts.from_net i r e goes owes found.0 (ap (is_active h) found.1 ∙ other)
       by_stands i k r e goes other owes (inl (inr owes')) = facts.from_owed i k r e goes other owes (subst (Among e) (append-nil (owed cs h k)) owes')
       by_stands i k r e goes other owes (inr runs) = absurd (none-some runs.0 runs.1)
 
 pub session-reserved_free : (table : ConflictRelation) (plans : List Plan) (s : Machine) (session : IsSession table plans s) → ReservedFree table session.symmetric plans session.good (now table s)
 session-reserved_free table plans s session =
-    let opening = run-own_order table plans session.good (record { opening = s.opening; courses = s.courses; kept = []; served = 0 }) session.courses session.legal refl in
+    let opening = run-own_order table plans session.good (record { opening = s.opening; courses = s.courses; kept = []; served = 0 }) session.courses session.legal session.marks refl in
     subst (λ xs. ReservedFree table session.symmetric plans session.good (advance_all table xs (opening_moment s.opening) s.kept)) (sym session.courses)
     (goes_on-keeps table (courses_of plans) (ReservedFree table session.symmetric plans session.good) (advance-reserved_free table session.symmetric plans session.good) (opening_moment s.opening) s.kept
     (ap (λ xs. goes_on_from table xs (opening_moment s.opening) s.kept) (sym session.courses) ∙ session.run)
-    (opening-reserved_free table session.symmetric plans session.good s.opening (ap (λ xs. is_legal table xs s.opening) (sym session.courses) ∙ session.legal) opening))
+    (opening-reserved_free table session.symmetric plans session.good s.opening (ap (λ xs. is_legal table xs s.opening.history) (sym session.courses) ∙ session.legal) opening))
 
 pub reserved_is_free : ReservedIsFree
 reserved_is_free table plans s session i k r e goes other owes stands =

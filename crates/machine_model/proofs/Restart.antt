@@ -33,7 +33,7 @@ use Rattle.machine_model.specs.State.{is_pending, next_of, pending_in_order, pen
 use Rattle.machine_model.specs.Advance.{Machine, advance, event_by, event_of, with_piece}
 use Rattle.machine_model.specs.Runs.{is_run, now}
 use Rattle.machine_model.specs.Laws.{AllHaveBegun, RestartBeginsAll, RestartFollowsCompletion, next_in_restart}
-use Rattle.machine_model.specs.declared.began.Cause.TheVariants.{Restart as Restarted}
+use Rattle.schedule_model.specs.declared.marks.Cause.TheVariants.{Restart as Restarted}
 use Rattle.machine_model.proofs.Snoc.{advances}
 use Rattle.machine_model.proofs.Begun.{all_begin-has}
 use Rattle.machine_model.proofs.LastElements.{HasEnd, has_end, last_of-push, same_end, Each-drop, Each-last, any_last, none_pass, all_pass}
@@ -77,7 +77,7 @@ module _ (table : ConflictRelation) (courses : List Course) where
   advance_of_plans m k all = advance-keeps OfPlans (λ cause n i never is. is) table courses m k (entered_of_plans m k all)
 
 -- where its opening is of its plans, a run is
-pub run-of_plans : (table : ConflictRelation) (s : Machine) → IsTrue (is_run table s) → All (HasPlansAccess s.courses) (acts s.opening) → All (HasPlansAccess s.courses) (acts (now table s).events)
+pub run-of_plans : (table : ConflictRelation) (s : Machine) → IsTrue (is_run table s) → All (HasPlansAccess s.courses) (acts s.opening.history) → All (HasPlansAccess s.courses) (acts (now table s).events)
 run-of_plans table s run all = run-keeps table s (OfPlans table s.courses) (λ m k is may. advance_of_plans table s.courses m k is) run all
 
 -- whoever has begun has its whole backward recovery pending
@@ -245,7 +245,7 @@ follows_completion courses m plans all i next = by_end (has_end (all_backward_en
 
 pub restart_follows_completion : RestartFollowsCompletion
 restart_follows_completion table plans s session all i next =
-    follows_completion s.courses (now table s) (run-of_plans table s session.run (acts-of_plans table s.courses s.opening session.legal)) all i next
+    follows_completion s.courses (now table s) (run-of_plans table s session.run (acts-of_plans table s.courses s.opening.history session.legal)) all i next
 
 pub restart_begins_all : RestartBeginsAll
 restart_begins_all table courses m i active' =

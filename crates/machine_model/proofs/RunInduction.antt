@@ -11,8 +11,8 @@ use Rattle.machine_model.specs.declared.kept.Kept.{Kept}
 use Rattle.machine_model.specs.declared.kept.Kept.TheVariants.{Start, Hand, Effect, Refuse, Abort, Victim, Restart}
 use Rattle.machine_model.specs.declared.kept.Work.{Work}
 use Rattle.machine_model.specs.declared.kept.Work.TheVariants.{Forward, Undo, End}
-use Rattle.machine_model.specs.declared.began.Cause.{Cause}
-use Rattle.machine_model.specs.declared.began.Cause.TheVariants.{Refused, Abort as Aborted, Cascade, Victim as WasVictim, Restart as Restarted}
+use Rattle.schedule_model.specs.declared.marks.Cause.{Cause}
+use Rattle.schedule_model.specs.declared.marks.Cause.TheVariants.{Refused, Abort as Aborted, Cascade, Victim as WasVictim, Restart as Restarted}
 use Rattle.machine_model.specs.Progress.{way_on}
 use Rattle.machine_model.specs.State.{progress}
 use Rattle.machine_model.specs.Moment.{Moment, Piece, noted, happened, begins, begins_now, all_begin, has_begun, opening_moment}

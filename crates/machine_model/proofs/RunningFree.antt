@@ -65,7 +65,7 @@ module _ (table : ConflictRelation) (symmetric : IsSymmetric table) (plans : Lis
 
 pub running_steps_are_free : RunningStepsAreFree
 running_steps_are_free table plans s session i k d e one two =
-    let opening = run-own_order table plans session.good (record { opening = s.opening; courses = s.courses; kept = []; served = 0 }) session.courses session.legal refl in
+    let opening = run-own_order table plans session.good (record { opening = s.opening; courses = s.courses; kept = []; served = 0 }) session.courses session.legal session.marks refl in
     let facts = goes_on-keeps table (courses_of plans) (RunningFree table session.symmetric plans session.good) (advance-running_free table session.symmetric plans session.good) (opening_moment s.opening) s.kept
     (ap (λ xs. goes_on_from table xs (opening_moment s.opening) s.kept) (sym session.courses) ∙ session.run)
     (record { own = opening; free = λ i' k' d' e' a b. absurd (none-some a.0 a.1) }) in

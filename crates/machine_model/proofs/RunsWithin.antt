@@ -97,11 +97,11 @@ module _ (table : ConflictRelation) (plans : List Plan) (good : AreGood plans) w
 
 pub session-within : (table : ConflictRelation) (plans : List Plan) (s : Machine) (session : IsSession table plans s) → Within table plans session.good (now table s)
 session-within table plans s session =
-    let opening = run-own_order table plans session.good (record { opening = s.opening; courses = s.courses; kept = []; served = 0 }) session.courses session.legal refl in
+    let opening = run-own_order table plans session.good (record { opening = s.opening; courses = s.courses; kept = []; served = 0 }) session.courses session.legal session.marks refl in
     subst (λ xs. Within table plans session.good (advance_all table xs (opening_moment s.opening) s.kept)) (sym session.courses)
     (goes_on-keeps table (courses_of plans) (Within table plans session.good) (advance-within table plans session.good) (opening_moment s.opening) s.kept
     (ap (λ xs. goes_on_from table xs (opening_moment s.opening) s.kept) (sym session.courses) ∙ session.run)
-    (record { own = opening; within = ap (λ xs. is_within_limits xs s.opening) (sym session.courses) ∙ session.within }))
+    (record { own = opening; within = ap (λ xs. is_within_limits xs s.opening.history) (sym session.courses) ∙ session.within }))
 
 pub runs_are_legal : RunsAreLegal
 runs_are_legal table plans s session = (

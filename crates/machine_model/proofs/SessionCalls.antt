@@ -29,6 +29,7 @@ use Rattle.machine_model.specs.Calls.{Call, start, admit, next, finish, abort, c
 use Rattle.machine_model.specs.Laws.{CallsMakeRuns, IsSession}
 use Rattle.machine_model.proofs.Snoc.{advance_all-append, goes_on-append, keeping}
 use Rattle.machine_model.proofs.CallsKept.{call-makes_run, no_courses}
+use Rattle.machine_model.proofs.MarkCourses.{marks-courses}
 use Rattle.machine_model.proofs.CoursesRuns.{SameOf, goes-courses, starts-most, refusal_same, limits-courses, starts-after, started_by}
 
 -- nobody starts by these events
@@ -102,6 +103,7 @@ session-longer table plans s ks served session none run = record {
   one_each = session.one_each ∙ sym (ap length (ap (λ (m : Moment). starts m.events) (advance_all-append table s.courses (opening_moment s.opening) s.kept ks) ∙ starts-still table s.courses (now table s) ks none));
   legal = session.legal;
   within = session.within;
+  marks = session.marks;
   run = run;
 }
 
@@ -138,12 +140,12 @@ module _ (table : ConflictRelation) (plans : List Plan) (s : Machine) (session :
   agree : (k : ℕ) → 1 ≤ k → k ≤ length s.courses → SameCourse cs ds k
   agree k low high = ap (λ xs. course xs k) (sym (take-append_seam s.courses (course_of p ∷ []))) ∙ course-take ds (length s.courses) k low high
 
-  opening_same : SameOf cs ds s.opening
+  opening_same : SameOf cs ds s.opening.history
   opening_same k is =
-      let bounds = legal-numbered table s.courses s.opening session.legal k is in
+      let bounds = legal-numbered table s.courses s.opening.history session.legal k is in
       let low = bounds.0 in
       let high = bounds.1 in
-      let few : length (starts s.opening) ≤ length (starts (now table s).events) = starts-most cs ds table (length s.courses) agree (opening_moment s.opening) s.kept in
+      let few : length (starts s.opening.history) ≤ length (starts (now table s).events) = starts-most cs ds table (length s.courses) agree (opening_moment s.opening) s.kept in
       let all = count in
       agree k (omega arith) (omega arith)
 
@@ -171,8 +173,9 @@ module _ (table : ConflictRelation) (plans : List Plan) (s : Machine) (session :
     good = plans_good;
     courses = ap (λ xs. xs ++ course_of p ∷ []) session.courses ∙ sym (map-append course_of plans (p ∷ []));
     one_each = let a = length-append plans (p ∷ []) in let b = session.one_each in let c = ap length grown in let d = length-append (starts m.events) (i ∷ []) in omega arith;
-    legal = sym (is_legal-courses cs ds table s.opening opening_same) ∙ session.legal;
-    within = sym (limits-courses cs ds limits [] s.opening opening_same) ∙ session.within;
+    legal = sym (is_legal-courses cs ds table s.opening.history opening_same) ∙ session.legal;
+    within = sym (limits-courses cs ds limits [] s.opening.history opening_same) ∙ session.within;
+    marks = marks-courses cs ds s.opening opening_same session.marks;
     run = goes_on-append table ds (opening_moment s.opening) s.kept (Start i ∷ [])
         ∙ and_from (goes_on_from table ds (opening_moment s.opening) s.kept) _ goes.1 (ap (λ o. goes_on_from table ds o (Start i ∷ [])) goes.0 ∙ and_from (may_be_kept table ds m (Start i)) true (may none) refl);
   }

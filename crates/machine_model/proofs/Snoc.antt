@@ -14,8 +14,8 @@ use Rattle.machine_model.specs.declared.kept.Kept.{Kept}
 use Rattle.machine_model.specs.declared.kept.Kept.TheVariants.{Start, Hand, Effect, Refuse, Abort, Victim, Restart}
 use Rattle.machine_model.specs.declared.kept.Work.{Work}
 use Rattle.machine_model.specs.declared.kept.Work.TheVariants.{Forward, Undo, End}
-use Rattle.machine_model.specs.declared.began.Cause.{Cause}
-use Rattle.machine_model.specs.declared.began.Cause.TheVariants.{Refused, Abort as Aborted, Cascade, Victim as WasVictim, Restart as Restarted}
+use Rattle.schedule_model.specs.declared.marks.Cause.{Cause}
+use Rattle.schedule_model.specs.declared.marks.Cause.TheVariants.{Refused, Abort as Aborted, Cascade, Victim as WasVictim, Restart as Restarted}
 use Rattle.machine_model.specs.Progress.{way_on}
 use Rattle.machine_model.specs.State.{progress}
 use Rattle.machine_model.specs.Moment.{Moment, Piece, noted, happened, begins, begins_now, all_begin, has_begun, opening_moment}
@@ -160,7 +160,7 @@ pub is_run-prefix : (table : ConflictRelation) (s : Machine) (ks : List Kept) �
 is_run-prefix table s ks is = both-left (is_run table s) _ (sym (goes_on-append table s.courses (opening_moment s.opening) s.kept ks) ∙ is)
 
 pub beginnings_of_runs_are_runs : BeginningsOfRunsAreRuns
-beginnings_of_runs_are_runs table h courses ks js served is = is_run-prefix table (record { opening = h; courses = courses; kept = ks; served = served }) js is
+beginnings_of_runs_are_runs table o courses ks js served is = is_run-prefix table (record { opening = o; courses = courses; kept = ks; served = served }) js is
 
 -- the pieces of more kept events
 pub hands-append : (ks js : List Kept) → hands (ks ++ js) ≡ hands ks ++ hands js

@@ -7,12 +7,11 @@ use Rattle.std.proofs.lemmas.Option.{none-some, same_Some}
 use Rattle.std.proofs.lemmas.List.Folds.{find-append}
 use Rattle.process_tree.specs.Order.{Each}
 use Rattle.process_tree.proofs.Every.{Each-weaker, Each-append}
-use Rattle.schedule_model.specs.declared.event.Event.{Event}
 use Rattle.schedule_model.specs.Course.{Course}
 use Rattle.schedule_model.specs.Conflict.{ConflictRelation}
 use Rattle.machine_model.specs.declared.kept.Kept.{Kept}
 use Rattle.machine_model.specs.declared.kept.Kept.TheVariants.{Start, Hand, Effect, Refuse, Abort, Victim, Restart}
-use Rattle.machine_model.specs.Moment.{Moment, Piece, noted, happened, without, opening_moment}
+use Rattle.machine_model.specs.Moment.{Moment, Opening, Piece, happened, noted, opening_moment, without}
 use Rattle.machine_model.specs.Pieces.{hands, piece_of}
 use Rattle.machine_model.specs.Advance.{Machine, advance, with_piece, event_of}
 use Rattle.machine_model.specs.Runs.{is_run, now, may_be_kept}
@@ -111,8 +110,8 @@ module _ (table : ConflictRelation) (courses : List Course) where
     linked = advance-keeps Linked linked-beginnings table courses m k (by_event m k tidy.counted tidy.linked may);
   }
 
-pub opening-tidy : (h : List Event) → Tidy (opening_moment h)
-opening-tidy h = record { counted = opening-counted h; one = record { one = λ i. omega arith }; linked = tt }
+pub opening-tidy : (o : Opening) → Tidy (opening_moment o)
+opening-tidy o = record { counted = opening-counted o; one = record { one = λ i. omega arith }; linked = tt }
 
 -- so it is all along a run
 pub run-tidy : (table : ConflictRelation) (s : Machine) → IsTrue (is_run table s) → Tidy (now table s)

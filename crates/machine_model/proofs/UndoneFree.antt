@@ -6,7 +6,6 @@ use Rattle.std.proofs.lemmas.Bool.{and_parts, eqb-true, eq-eqb}
 use Rattle.process_tree.specs.Entries.{access_of}
 use Rattle.process_tree.specs.declared.entry.Entry.{Entry}
 use Rattle.process_tree.specs.declared.plan.Plan.{Plan}
-use Rattle.schedule_model.specs.declared.event.Event.{Event}
 use Rattle.schedule_model.specs.Course.{Course, courses_of, access_at}
 use Rattle.schedule_model.specs.Conflict.{ConflictRelation, IsSymmetric, conflict}
 use Rattle.schedule_model.specs.Histories.{doing, is_active, net, net_of, same_step}
@@ -24,7 +23,7 @@ use Rattle.machine_model.specs.declared.kept.Kept.{Kept}
 use Rattle.machine_model.specs.declared.kept.Kept.TheVariants.{Hand}
 use Rattle.machine_model.specs.declared.kept.Work.TheVariants.{Undo}
 use Rattle.machine_model.specs.Progress.{next_task, pending_steps, same_task, same_work, staying}
-use Rattle.machine_model.specs.Moment.{Moment, Piece, opening_moment}
+use Rattle.machine_model.specs.Moment.{Moment, Opening, Piece, opening_moment}
 use Rattle.machine_model.specs.Pieces.{running_of}
 use Rattle.machine_model.specs.State.{against_work, block_of, holdings, is_exhausted, next_of, pending_of, progress}
 use Rattle.machine_model.specs.Advance.{Machine, advance, advance_all}
@@ -146,19 +145,19 @@ module _ (table : ConflictRelation) (symmetric : IsSymmetric table) (plans : Lis
     free = λ i p e runs work back. free_after m k facts may i p e runs work back;
   }
 
-  pub opening-undone_free : (h : List Event) → IsTrue (is_legal table cs h) → InOwnOrder table plans good (opening_moment h) → UndoneFree (opening_moment h)
-  opening-undone_free h legal own = record {
-    pending = opening-pending_free table symmetric plans good h legal own;
+  pub opening-undone_free : (o : Opening) → IsTrue (is_legal table cs o.history) → InOwnOrder table plans good (opening_moment o) → UndoneFree (opening_moment o)
+  opening-undone_free o legal own = record {
+    pending = opening-pending_free table symmetric plans good o legal own;
     free = λ i p e runs work back. absurd (none-some p runs);
   }
 
 pub session-undone_free : (table : ConflictRelation) (plans : List Plan) (s : Machine) (session : IsSession table plans s) → UndoneFree table session.symmetric plans session.good (now table s)
 session-undone_free table plans s session =
-    let opening = run-own_order table plans session.good (record { opening = s.opening; courses = s.courses; kept = []; served = 0 }) session.courses session.legal refl in
+    let opening = run-own_order table plans session.good (record { opening = s.opening; courses = s.courses; kept = []; served = 0 }) session.courses session.legal session.marks refl in
     subst (λ xs. UndoneFree table session.symmetric plans session.good (advance_all table xs (opening_moment s.opening) s.kept)) (sym session.courses)
     (goes_on-keeps table (courses_of plans) (UndoneFree table session.symmetric plans session.good) (advance-undone_free table session.symmetric plans session.good) (opening_moment s.opening) s.kept
     (ap (λ xs. goes_on_from table xs (opening_moment s.opening) s.kept) (sym session.courses) ∙ session.run)
-    (opening-undone_free table session.symmetric plans session.good s.opening (ap (λ xs. is_legal table xs s.opening) (sym session.courses) ∙ session.legal) opening))
+    (opening-undone_free table session.symmetric plans session.good s.opening (ap (λ xs. is_legal table xs s.opening.history) (sym session.courses) ∙ session.legal) opening))
 
 pub undone_is_free : UndoneIsFree
 undone_is_free table plans s session i p e runs work back =

@@ -11,7 +11,7 @@ use Rattle.schedule_model.proofs.Active.{is_in-filter}
 use Rattle.schedule_model.proofs.Counts.{length_filter-more, length_filter-most}
 use Rattle.schedule_model.proofs.Walks.{any-is_in}
 use Rattle.machine_model.specs.declared.kept.Kept.TheVariants.{Victim}
-use Rattle.machine_model.specs.declared.began.Cause.TheVariants.{Victim as WasVictim}
+use Rattle.schedule_model.specs.declared.marks.Cause.TheVariants.{Victim as WasVictim}
 use Rattle.machine_model.specs.Moment.{Moment, has_begun, noted}
 use Rattle.machine_model.specs.State.{is_blocked, is_stalled, victim_of}
 use Rattle.machine_model.specs.Advance.{advance, advance_all}

@@ -11,7 +11,7 @@ use Rattle.schedule_model.specs.Histories.{doing}
 use Rattle.schedule_model.specs.Samples.{stock_table, purchase, sale, addition, order, withdrawal, loose_purchase, did, undid}
 use Rattle.machine_model.specs.declared.kept.Work.TheVariants.{Forward, Undo, End}
 use Rattle.machine_model.specs.declared.kept.Kept.TheVariants.{Start, Hand, Effect, Abort}
-use Rattle.machine_model.specs.declared.began.Cause.TheVariants.{Abort as Aborted, Cascade}
+use Rattle.schedule_model.specs.declared.marks.Cause.TheVariants.{Abort as Aborted, Cascade}
 use Rattle.machine_model.specs.declared.replies.Aborted.TheVariants.{Ok, Ended as HasEnded}
 use Rattle.machine_model.specs.Replies.{all_ended}
 use Rattle.machine_model.specs.Runs.{is_run, history}

@@ -3,6 +3,9 @@ use Rattle.std.specs.Prelude.{ℕ, not, List, [], ◌∷◌, filter, nat_eq, if�
 use Rattle.process_tree.specs.Shape.{kind_of, can_be_refused}
 use Rattle.schedule_model.specs.declared.event.Event.{Event}
 use Rattle.schedule_model.specs.declared.event.Event.TheVariants.{Start as Started, Act, End as Ended}
+use Rattle.schedule_model.specs.declared.marks.Cause.{Cause}
+use Rattle.schedule_model.specs.declared.marks.Cause.TheVariants.{Refused, Abort as Aborted', Cascade, Victim as Victim'}
+use Rattle.schedule_model.specs.declared.marks.Cause.TheVariants.{Restart as Restarted}
 use Rattle.schedule_model.specs.Course.{Course, shape}
 use Rattle.schedule_model.specs.Conflict.{ConflictRelation}
 use Rattle.schedule_model.specs.Histories.{active, doing, undoing}
@@ -10,12 +13,9 @@ use Rattle.machine_model.specs.declared.kept.Work.{Work}
 use Rattle.machine_model.specs.declared.kept.Work.TheVariants.{Forward, Undo, End}
 use Rattle.machine_model.specs.declared.kept.Kept.{Kept}
 use Rattle.machine_model.specs.declared.kept.Kept.TheVariants.{Start, Hand, Effect, Refuse, Abort, Victim, Restart}
-use Rattle.machine_model.specs.declared.began.Cause.{Cause}
-use Rattle.machine_model.specs.declared.began.Cause.TheVariants.{Refused, Abort as Aborted', Cascade, Victim as Victim'}
-use Rattle.machine_model.specs.declared.began.Cause.TheVariants.{Restart as Restarted}
 use Rattle.machine_model.specs.Cascade.{cascade}
 use Rattle.machine_model.specs.Progress.{way_on}
-use Rattle.machine_model.specs.Moment.{Moment, Piece, noted, happened, begins, all_begin}
+use Rattle.machine_model.specs.Moment.{Moment, Opening, Piece, noted, happened, begins, all_begin}
 use Rattle.machine_model.specs.Pieces.{piece_of}
 use Rattle.machine_model.specs.State.{progress, pending_of, holdings}
 
@@ -84,8 +84,8 @@ advance_all table courses m (k ∷ ks) = advance_all table courses (advance tabl
 
 -- a state of the machine
 pub record Machine : Type 0 where
-  -- the opening history
-  pub opening : List Event
+  -- what was known at its opening
+  pub opening : Opening
   -- the course of each process, those of the opening first
   pub courses : List Course
   -- the kept events

@@ -2,7 +2,6 @@
 use Rattle.std.specs.Prelude.{false, ◌≡◌, ◌≢◌, ◌⊎◌, ◌↔◌, ◌≤◌, ℕ, List, [], ◌++◌, length, map, filter, IsTrue, Some, None}
 use Rattle.process_tree.specs.declared.plan.Plan.{Plan}
 use Rattle.process_tree.specs.Shape.{least}
-use Rattle.schedule_model.specs.declared.event.Event.{Event}
 use Rattle.schedule_model.specs.Course.{Course}
 use Rattle.schedule_model.specs.Conflict.{ConflictRelation}
 use Rattle.schedule_model.specs.Histories.{active, is_active, is_in}
@@ -10,7 +9,7 @@ use Rattle.machine_model.specs.declared.kept.Kept.{Kept}
 use Rattle.machine_model.specs.declared.kept.Kept.TheVariants.{Effect}
 use Rattle.machine_model.specs.declared.replies.PieceState.TheVariants.{Over}
 use Rattle.machine_model.specs.Pieces.{runs, state_of}
-use Rattle.machine_model.specs.Moment.{Moment, has_begun}
+use Rattle.machine_model.specs.Moment.{Moment, Opening, has_begun}
 use Rattle.machine_model.specs.State.{is_blocked, is_exhausted, victim_of}
 use Rattle.machine_model.specs.Advance.{Machine, advance_all}
 use Rattle.machine_model.specs.Runs.{is_run, now}
@@ -22,9 +21,9 @@ use Rattle.machine_model.specs.Laws.{IsSession}
 
 -- Each beginning of a run is one.
 abbrev pub BeginningsOfRunsAreRuns : Type 0
-BeginningsOfRunsAreRuns = (table : ConflictRelation) (h : List Event) (courses : List Course) (ks js : List Kept) (served : ℕ)
-    → IsTrue (is_run table (record { opening = h; courses = courses; kept = ks ++ js; served = served }))
-    → IsTrue (is_run table (record { opening = h; courses = courses; kept = ks; served = served }))
+BeginningsOfRunsAreRuns = (table : ConflictRelation) (o : Opening) (courses : List Course) (ks js : List Kept) (served : ℕ)
+    → IsTrue (is_run table (record { opening = o; courses = courses; kept = ks ++ js; served = served }))
+    → IsTrue (is_run table (record { opening = o; courses = courses; kept = ks; served = served }))
 
 -- What a call other than a start keeps makes a longer run.
 abbrev pub CallsKeepRuns : Type 0

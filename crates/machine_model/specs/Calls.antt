@@ -10,7 +10,7 @@ use Rattle.machine_model.specs.declared.kept.Kept.TheVariants.{Start, Abort, Res
 use Rattle.machine_model.specs.declared.replies.StartWhy.{StartWhy}
 use Rattle.machine_model.specs.declared.replies.Aborted.{Aborted}
 use Rattle.machine_model.specs.declared.replies.Aborted.TheVariants.{Ok, Unknown, Ended, Exhausted, Already}
-use Rattle.machine_model.specs.Moment.{Moment}
+use Rattle.machine_model.specs.Moment.{Moment, Opening, on_history}
 use Rattle.machine_model.specs.Advance.{Machine, advance_all}
 use Rattle.machine_model.specs.Runs.{start_refusal, may_be_kept, now}
 use Rattle.machine_model.specs.Replies.{Admit, piece, blocked, running, unknown, ended, exhausted, admit_reply, Next, chosen, wait}
@@ -163,7 +163,11 @@ called table s (c ∷ cs) =
     let a = answer table s.machine c in
     called table (record { machine = answered s.machine a; replies = s.replies ++ a.reply ∷ [] }) cs
 
--- a session that opens on this history
+-- a session with this opening
+abbrev pub session_on : ConflictRelation → List Course → Opening → List Call → Session
+session_on table courses o cs =
+    called table (record { machine = record { opening = o; courses = courses; kept = []; served = 0 }; replies = [] }) cs
+
+-- a session that opens on a history alone
 abbrev pub session : ConflictRelation → List Course → List Event → List Call → Session
-session table courses h cs =
-    called table (record { machine = record { opening = h; courses = courses; kept = []; served = 0 }; replies = [] }) cs
+session table courses h cs = session_on table courses (on_history h) cs

@@ -5,9 +5,9 @@ use Rattle.schedule_model.specs.Conflict.{ConflictRelation}
 use Rattle.schedule_model.specs.Histories.{active, is_in}
 use Rattle.machine_model.specs.declared.kept.Kept.{Kept}
 use Rattle.machine_model.specs.declared.kept.Kept.TheVariants.{Start, Hand, Effect, Refuse, Abort, Victim, Restart}
-use Rattle.machine_model.specs.declared.began.Cause.{Cause}
-use Rattle.machine_model.specs.declared.began.Cause.TheVariants.{Refused, Abort as WasAborted, Cascade, Victim as WasVictim}
-use Rattle.machine_model.specs.declared.began.Cause.TheVariants.{Restart as Restarted}
+use Rattle.schedule_model.specs.declared.marks.Cause.{Cause}
+use Rattle.schedule_model.specs.declared.marks.Cause.TheVariants.{Refused, Abort as WasAborted, Cascade, Victim as WasVictim}
+use Rattle.schedule_model.specs.declared.marks.Cause.TheVariants.{Restart as Restarted}
 use Rattle.machine_model.specs.Progress.{is_only_try, way_on}
 use Rattle.machine_model.specs.Moment.{Moment, Piece, Beginning, beginning_of, noted, begins}
 use Rattle.machine_model.specs.Pieces.{piece_of}

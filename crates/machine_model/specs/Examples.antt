@@ -3,7 +3,7 @@ use Rattle.std.specs.Prelude.{ℕ, List, []}
 use Rattle.schedule_model.specs.Samples.{stock_table}
 use Rattle.machine_model.specs.declared.kept.Work.{Work}
 use Rattle.machine_model.specs.declared.blocked.Rule.{Rule}
-use Rattle.machine_model.specs.declared.began.Cause.{Cause}
+use Rattle.schedule_model.specs.declared.marks.Cause.{Cause}
 use Rattle.machine_model.specs.Moment.{Beginning}
 use Rattle.machine_model.specs.Replies.{Handed, piece, blocked, chosen, effected}
 use Rattle.machine_model.specs.Calls.{Call, Reply, admitted, next_is, finished, Session, session}

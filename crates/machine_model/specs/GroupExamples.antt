@@ -7,7 +7,7 @@ use Rattle.process_tree.specs.declared.step.StepKind.TheVariants.{C}
 use Rattle.machine_model.specs.declared.kept.Kept.{Kept}
 use Rattle.machine_model.specs.declared.kept.Kept.TheVariants.{Start, Hand, Effect}
 use Rattle.machine_model.specs.declared.kept.Work.TheVariants.{Forward}
-use Rattle.machine_model.specs.Moment.{Moment}
+use Rattle.machine_model.specs.Moment.{Moment, on_history}
 use Rattle.machine_model.specs.Runs.{now}
 use Rattle.machine_model.specs.Calls.{start, admit, finish, abort, Session}
 use Rattle.machine_model.specs.Groups.{Targets, queue_reply, queued, full, over, no_refusal, as_done, as_refused, flush_kept}
@@ -89,7 +89,7 @@ dropped_reply = refl
 abbrev pub board : List Kept → List ℕ → Board
 board ks group =
     record {
-      machine = record { opening = []; courses = addition ∷ payment ∷ []; kept = ks; served = 0 };
+      machine = record { opening = on_history []; courses = addition ∷ payment ∷ []; kept = ks; served = 0 };
       group = group;
       closed = None;
     }

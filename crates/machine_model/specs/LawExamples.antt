@@ -7,7 +7,7 @@ use Rattle.machine_model.specs.declared.kept.Work.TheVariants.{Undo}
 use Rattle.machine_model.specs.declared.kept.Kept.TheVariants.{Restart}
 use Rattle.machine_model.specs.Advance.{advance}
 use Rattle.machine_model.specs.Laws.{next_in_restart}
-use Rattle.machine_model.specs.Moment.{opening_moment}
+use Rattle.machine_model.specs.Moment.{on_history, opening_moment}
 use Rattle.machine_model.specs.Pieces.{hands, is_try_of}
 use Rattle.machine_model.specs.Runs.{is_run}
 use Rattle.machine_model.specs.State.{block_of, tries_by, undo_next}
@@ -17,15 +17,15 @@ use Rattle.machine_model.specs.Examples.{from_nothing}
 
 -- A session that opens in the midst of an undo: the addition of the purchase is the last pending entry, and yet its undo is
 -- blocked, since the withdrawal has built on it and need not go back.
-pub last_pending_blocked : (undo_next half_undone (opening_moment half_undone_opening) ≡ Some 1)
-    × (block_of stock_table half_undone (opening_moment half_undone_opening) 1
+pub last_pending_blocked : (undo_next half_undone (opening_moment (on_history half_undone_opening)) ≡ Some 1)
+    × (block_of stock_table half_undone (opening_moment (on_history half_undone_opening)) 1
     ≡ Some (record { on = 2; other = 0; own = 0; rule = A5 }))
 last_pending_blocked = (refl, refl)
 
 -- With a restart the withdrawal goes back too, and nothing blocks whoever comes next.
 pub free_after_restart :
-    (next_in_restart half_undone (advance stock_table half_undone (opening_moment half_undone_opening) Restart) ≡ Some 2)
-    × (block_of stock_table half_undone (advance stock_table half_undone (opening_moment half_undone_opening) Restart) 2 ≡ None)
+    (next_in_restart half_undone (advance stock_table half_undone (opening_moment (on_history half_undone_opening)) Restart) ≡ Some 2)
+    × (block_of stock_table half_undone (advance stock_table half_undone (opening_moment (on_history half_undone_opening)) Restart) 2 ≡ None)
 free_after_restart = (refl, refl)
 
 -- An order pays, takes from the stock, and can't ship; so it undoes the taking, to go another way. The undo is refused twice and

@@ -28,23 +28,25 @@ use Rattle.machine_model.specs.declared.kept.Work.TheVariants.{Forward, Undo, En
 use Rattle.machine_model.specs.declared.kept.Kept.TheVariants.{Restart}
 use Rattle.machine_model.specs.Blocks.{blocks_of, least_block}
 use Rattle.machine_model.specs.Cascade.{IsCascade, cascade}
-use Rattle.machine_model.specs.Moment.{Moment, Piece, has_begun}
+use Rattle.machine_model.specs.Moment.{Moment, Piece, has_begun, opening_moment}
 use Rattle.machine_model.specs.Pieces.{hands, running_of}
 use Rattle.machine_model.specs.State.{against_task, against_work, block_of, hold_of, holdings, is_exhausted, is_pending, next_of}
 use Rattle.machine_model.specs.State.{pending_of, undo_next}
 use Rattle.machine_model.specs.Advance.{Machine, advance, cascade_of, event_by}
 use Rattle.machine_model.specs.Runs.{history, is_run, now}
 use Rattle.machine_model.specs.Replies.{stuck}
+use Rattle.machine_model.specs.Sound.{do_marks_belong, is_closed}
 use Rattle.machine_model.specs.Calls.{IsNoStart, Call, start, answer, answer_next, answered, next_is}
 
--- a run of the machine over good plans that opens on a legal history within the limits
+-- a run of the machine over good plans that opens on a legal history within the limits, to which its beginnings and refusals belong
 pub record IsSession (table : ConflictRelation) (plans : List Plan) (s : Machine) : Type 0 where
   pub symmetric : IsSymmetric table
   pub good : (p : Plan) → Contains plans p → IsGoodPlan p
   pub courses : s.courses ≡ courses_of plans
   pub one_each : length plans ≡ length (starts (history table s))
-  pub legal : IsTrue (is_legal table s.courses s.opening)
-  pub within : IsTrue (is_within_limits s.courses s.opening)
+  pub legal : IsTrue (is_legal table s.courses s.opening.history)
+  pub within : IsTrue (is_within_limits s.courses s.opening.history)
+  pub marks : IsTrue (do_marks_belong s.courses s.opening)
   pub run : IsTrue (is_run table s)
 
 -- Runs are legal: the history of each run is legal, and within the limits.
@@ -59,9 +61,9 @@ CallsMakeRuns = (table : ConflictRelation) (plans : List Plan) (s : Machine) →
     × ((p : Plan) → IsGoodPlan p
     → let a = answer table s (start (course_of p)) in IsSession table (plans ++ p ∷ []) (answered s a) ⊎ (a.kept ≡ []))
 
--- no process was active at the opening, or a restart is kept since
-abbrev pub OpenedAtRest : Machine → Type 0
-OpenedAtRest s = (active s.opening ≡ []) ⊎ Contains s.kept Restart
+-- those who go back were closed under cascades at the opening, or a restart is kept since
+abbrev pub OpenedClosed : ConflictRelation → Machine → Type 0
+OpenedClosed table s = IsTrue (is_closed table s.courses (opening_moment s.opening)) ⊎ Contains s.kept Restart
 
 -- every active process has begun to complete
 abbrev pub AllHaveBegun : Moment → Type 0
@@ -81,8 +83,8 @@ pub record AdmissionLaws (table : ConflictRelation) (s : Machine) : Type 0 where
   -- nor is the end of a process that has nothing left to undo
   pub end_is_free : (i : ℕ) → IsTrue (is_active (history table s) i) → (next_of s.courses (now table s) i).work ≡ End
       → backward_entries s.courses (history table s) i ≡ [] → block_of table s.courses (now table s) i ≡ None
-  -- nor is the undo of the last pending entry in joint order, where the machine opened at rest or all have begun
-  pub last_pending_is_free : (i : ℕ) → OpenedAtRest s ⊎ AllHaveBegun (now table s) → undo_next s.courses (now table s) ≡ Some i
+  -- nor is the undo of the last pending entry in joint order, where the machine opened closed under cascades or all have begun
+  pub last_pending_is_free : (i : ℕ) → OpenedClosed table s ⊎ AllHaveBegun (now table s) → undo_next s.courses (now table s) ≡ Some i
       → block_of table s.courses (now table s) i ≡ None
 
 -- They hold at each moment of a run.
@@ -126,8 +128,8 @@ pub record StandingFacts (table : ConflictRelation) (s : Machine) : Type 0 where
   -- while the undo of x runs, behind x stands no net entry of another process that conflicts
   pub undone_is_free : (i : ℕ) (p : Piece) (e : Entry) → running_of (now table s) i ≡ Some p → p.work ≡ Undo
       → Contains (behind (doing s.courses i p.step) (net (history table s))) e → conflict table (doing s.courses i p.step) e ≡ false
-  -- where the machine opened at rest, what stands behind a pending entry and conflicts with it is pending
-  pub pending_is_closed : (i : ℕ) (x e : Entry) → OpenedAtRest s → IsTrue (is_active (history table s) i)
+  -- where the machine opened closed under cascades, what stands behind a pending entry and conflicts with it is pending
+  pub pending_is_closed : (i : ℕ) (x e : Entry) → OpenedClosed table s → IsTrue (is_active (history table s) i)
       → Contains (pending_of s.courses (now table s) i) x
       → Contains (behind x (net (history table s))) e → conflict table x e ≡ true → IsTrue (is_pending s.courses (now table s) e)
   -- behind a net entry of an active process stands no net entry of an ended one that conflicts
@@ -190,10 +192,10 @@ PendingIsFree = (table : ConflictRelation) (plans : List Plan) (s : Machine) →
     → (i k : ℕ) (x e : Entry) → IsTrue (is_active (history table s) i) → Contains (pending_of s.courses (now table s) i) x
     → IsRunningStep (now table s) s.courses k e → conflict table x e ≡ false
 
--- Where the machine opened at rest, what stands behind a pending entry and conflicts with it is pending.
+-- Where the machine opened closed under cascades, what stands behind a pending entry and conflicts with it is pending.
 abbrev pub PendingIsClosed : Type 0
 PendingIsClosed = (table : ConflictRelation) (plans : List Plan) (s : Machine) → IsSession table plans s
-    → (i : ℕ) (x e : Entry) → OpenedAtRest s → IsTrue (is_active (history table s) i)
+    → (i : ℕ) (x e : Entry) → OpenedClosed table s → IsTrue (is_active (history table s) i)
     → Contains (pending_of s.courses (now table s) i) x
     → Contains (behind x (net (history table s))) e → conflict table x e ≡ true → IsTrue (is_pending s.courses (now table s) e)
 
@@ -285,10 +287,11 @@ abbrev pub RestartIsFree : Type 0
 RestartIsFree = (table : ConflictRelation) (plans : List Plan) (s : Machine) → IsSession table plans s → AllHaveBegun (now table s)
     → (i : ℕ) → next_in_restart s.courses (now table s) ≡ Some i → block_of table s.courses (now table s) i ≡ None
 
--- The undo of the last pending entry in joint order is never blocked, where the machine opened at rest or all have begun.
+-- The undo of the last pending entry in joint order is never blocked, where the machine opened closed under cascades or all have
+-- begun.
 abbrev pub LastPendingIsFree : Type 0
 LastPendingIsFree = (table : ConflictRelation) (plans : List Plan) (s : Machine) → IsSession table plans s
-    → (i : ℕ) → OpenedAtRest s ⊎ AllHaveBegun (now table s) → undo_next s.courses (now table s) ≡ Some i
+    → (i : ℕ) → OpenedClosed table s ⊎ AllHaveBegun (now table s) → undo_next s.courses (now table s) ≡ Some i
     → block_of table s.courses (now table s) i ≡ None
 
 -- A piece is blocked exactly where something stands against it.

@@ -5,6 +5,7 @@ pub mod ProcessState
 pub mod Moment
 pub mod Pieces
 pub mod State
+pub mod Sound
 pub mod Advance
 pub mod Runs
 pub mod Replies

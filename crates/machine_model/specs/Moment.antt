@@ -1,11 +1,13 @@
 -- A moment of a session: what happened so far, which pieces are out, which were lost, and who has begun to complete.
 use Rattle.std.specs.Prelude.{ℕ, Bool, not, List, [], ◌∷◌, ◌++◌, filter, map, find, nat_eq, length, Option, is_some, if◌then◌else◌}
 use Rattle.schedule_model.specs.declared.event.Event.{Event}
+use Rattle.schedule_model.specs.declared.marks.Begun.{Begun}
+use Rattle.schedule_model.specs.declared.marks.Cause.{Cause}
+use Rattle.schedule_model.specs.declared.marks.RefusedStep.{RefusedStep}
 use Rattle.machine_model.specs.declared.kept.Kept.{Kept}
 use Rattle.machine_model.specs.declared.kept.Kept.TheVariants.{Start, Hand, Effect, Refuse, Abort, Victim, Restart}
 use Rattle.machine_model.specs.declared.kept.Work.{Work}
 use Rattle.machine_model.specs.declared.began.Began.{Began}
-use Rattle.machine_model.specs.declared.began.Cause.{Cause}
 
 -- a process that has begun to complete, at which kept event, and why
 pub record Beginning : Type 0 where
@@ -24,11 +26,6 @@ pub record Lost : Type 0 where
   pub piece : Piece
   pub event : ℕ
 
--- a step that was refused and isn't tried again
-pub record RefusedStep : Type 0 where
-  pub process : ℕ
-  pub step : ℕ
-
 -- what is known after some of the kept events
 pub record Moment : Type 0 where
   -- the history
@@ -44,9 +41,26 @@ pub record Moment : Type 0 where
   -- which steps were refused before the opening and aren't tried again
   pub refused : List RefusedStep
 
--- the moment of an opening on a history, at which nothing runs, nobody has begun and nothing was refused
-abbrev pub opening_moment : List Event → Moment
-opening_moment h = record { events = h; kept = []; out = []; lost = []; beginnings = []; refused = [] }
+-- what is known at an opening
+pub record Opening : Type 0 where
+  pub history : List Event
+  -- who has begun to complete, in order, ended ones too
+  pub begun : List Begun
+  -- which steps were refused and aren't tried again, in order
+  pub refused : List RefusedStep
+
+-- whoever began before the opening began before the first kept event
+abbrev pub beginning : Begun → Beginning
+beginning b = record { process = b.process; began = record { event = 0; cause = b.cause } }
+
+-- the moment of an opening, at which nothing runs and nothing was kept
+abbrev pub opening_moment : Opening → Moment
+opening_moment o =
+    record { events = o.history; kept = []; out = []; lost = []; beginnings = map beginning o.begun; refused = o.refused }
+
+-- the opening on a history alone: nobody has begun, and nothing was refused
+abbrev pub on_history : List Event → Opening
+on_history h = record { history = h; begun = []; refused = [] }
 
 -- when process i began to complete, if it has
 abbrev pub beginning_of : Moment → ℕ → Option Beginning

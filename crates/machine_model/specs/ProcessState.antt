@@ -32,6 +32,18 @@ opening_state c acts = record {
   refused = 0;
 }
 
+-- at an opening at which these steps of it aren't tried again, and it has begun to complete or not
+abbrev pub marked_state : Course → List Entry → List ℕ → Bool → ProcessState
+marked_state c acts refused begun = record {
+  progress = record {
+    shape = c.shape;
+    net = steps_of (net_acts acts);
+    onward = above (steps_of (filter (λ e. not e.undo) acts) ++ refused);
+    begun = begun;
+  };
+  refused = 0;
+}
+
 -- the allowance of step b
 abbrev pub allowance_in : Course → ℕ → Allowance
 allowance_in c b = slice_index_or c.allowances b usual

@@ -5,7 +5,7 @@ use Rattle.schedule_model.specs.Samples.{stock_table, purchase, addition, withdr
 use Rattle.machine_model.specs.declared.blocked.Rule.TheVariants.{A1}
 use Rattle.machine_model.specs.declared.kept.Work.TheVariants.{Forward, End}
 use Rattle.machine_model.specs.declared.kept.Kept.TheVariants.{Start, Hand, Effect, Refuse, Abort}
-use Rattle.machine_model.specs.declared.began.Cause.TheVariants.{Refused as RefusedStep, Abort as Aborted}
+use Rattle.schedule_model.specs.declared.marks.Cause.TheVariants.{Refused as RefusedStep, Abort as Aborted}
 use Rattle.machine_model.specs.declared.replies.Aborted.TheVariants.{Ok, Already}
 use Rattle.machine_model.specs.declared.replies.Refusal.TheVariants.{Retry, Alternative, RollBack, Exhausted}
 use Rattle.machine_model.specs.Replies.{running, unknown, exhausted, refused, dropped, piece}

@@ -5,7 +5,7 @@ use Rattle.schedule_model.specs.Samples.{stock_table, noted_purchase, noted_sale
 use Rattle.machine_model.specs.declared.blocked.Rule.TheVariants.{A2}
 use Rattle.machine_model.specs.declared.kept.Work.TheVariants.{Forward, Undo, End}
 use Rattle.machine_model.specs.declared.kept.Kept.TheVariants.{Start, Hand, Effect, Victim}
-use Rattle.machine_model.specs.declared.began.Cause.TheVariants.{Victim as WasVictim}
+use Rattle.schedule_model.specs.declared.marks.Cause.TheVariants.{Victim as WasVictim}
 use Rattle.machine_model.specs.Replies.{wait, all_ended}
 use Rattle.machine_model.specs.Runs.{is_run}
 use Rattle.machine_model.specs.Calls.{Call, start, admit, next, finish, started, next_is}

@@ -1,7 +1,9 @@
 //! The scheduler machine: what it keeps, what may happen next, and what it answers.
 //!
-//! Everything is a function of an opening history and the list of kept events (`specs/Moment`): which pieces are out or lost,
-//! who has begun to complete and why, the way on, what is pending, the next piece, what is exhausted, blocked or free.
+//! Everything is a function of an opening and the list of kept events (`specs/Moment`): which pieces are out or lost,
+//! who has begun to complete and why, the way on, what is pending, the next piece, what is exhausted, blocked or free. A machine
+//! opens at a moment: a history together with who has begun to complete and why, and which steps were refused and aren't tried
+//! again. `specs/Sound` computes whether these belong to the history, and whether those who go back are closed under cascades.
 //! `specs/ProcessState` is one process alone, `Blocks` has the quadruple that a blocked piece is answered with, `Cascade` who
 //! has to go back with whom, `Runs` which event may be kept, `Calls` each call's answer, `Groups` pieces that take effect
 //! together, and `Turns` the calls of several threads in one order. The layers above cite these definitions. This crate has
@@ -14,7 +16,7 @@ mod kept;
 mod laws;
 mod replies;
 
-pub use began::{Began, Cause};
+pub use began::Began;
 pub use blocked::{Admitted, Blocked, Rule};
 pub use kept::{Kept, Work};
 pub use laws::{
@@ -35,3 +37,4 @@ pub use laws::{
     undos_take_back_the_last, undos_take_effect, undos_wait_by_a5, victims_run_dry,
 };
 pub use replies::{Aborted, PieceState, Recovery, Refusal, StartWhy, Todo};
+pub use schedule_model::Cause;

@@ -5,7 +5,7 @@ use Rattle.process_tree.specs.Blocks.{numbers_from}
 use Rattle.schedule_model.specs.declared.event.Event.{Event}
 use Rattle.schedule_model.specs.Course.{course}
 use Rattle.schedule_model.specs.Histories.{ends, is_active, is_in, starts}
-use Rattle.machine_model.specs.declared.began.Cause.{Cause}
+use Rattle.schedule_model.specs.declared.marks.Cause.{Cause}
 use Rattle.machine_model.specs.declared.kept.Kept.{Kept}
 use Rattle.machine_model.specs.State.{process_state}
 use Rattle.machine_model.specs.Runs.{may_be_kept}

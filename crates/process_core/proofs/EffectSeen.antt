@@ -3,6 +3,8 @@ use Rattle.std.proofs.Common.{◌≡◌, ◌∙◌, ℕ, ◌+◌, ◌-◌, ◌�
 use Rattle.process_tree.specs.declared.plan.Plan.{Plan}
 use Rattle.process_tree.specs.declared.play.Outcome.TheVariants.{Done}
 use Rattle.schedule_model.specs.declared.event.Event.{Event}
+use Rattle.schedule_model.specs.declared.marks.Begun.{Begun}
+use Rattle.schedule_model.specs.declared.marks.RefusedStep.{RefusedStep}
 use Rattle.schedule_model.specs.Course.{course, course_of}
 use Rattle.machine_model.specs.declared.kept.Kept.{Kept}
 use Rattle.machine_model.specs.declared.kept.Kept.TheVariants.{Effect}
@@ -14,7 +16,7 @@ use Rattle.machine_model.specs.Pieces.{piece_of, runs, state_of}
 use Rattle.machine_model.specs.Replies.{effected}
 use Rattle.hold_tables.specs.Tables.{Tables, is_open, kept_of}
 use Rattle.process_core.specs.Answers.{after_call, answer_in}
-use Rattle.core_state.specs.Cores.{CoreState, IsCore, courses_in, history_of, moment_of}
+use Rattle.core_state.specs.Cores.{CoreState, IsCore, courses_in, history_of, moment_of, opening_in}
 use Rattle.core_state.specs.Effects.{HoldsWork, event_told, pending_in, seat_effected, tables_effected}
 use Rattle.core_state.specs.Room.{IsKept}
 use Rattle.core_state.specs.Seats.{SeatState, seat_of}
@@ -91,20 +93,20 @@ module _ {c v : CoreState} {h : List Event} {ss : List SeatState} {ts : Tables} 
     effect_holds = holds_work v d handed out h ss ts seen.stands p its_seen
 
     module _ (us : Tables) (tables : us ≡ tables_effected p d.process d.step d.work (pending_in (seat_effected d.work (seat_of (courses_in v) (moment_of v) d.process)).instance) ts)
-        (first : c.opening ≡ take opening h) (g : List Event) (events : g ≡ h ++ event_of (courses_in v) d ∷ []) (ks : List Kept) (items : ks ≡ c.kept ++ Effect d.number ∷ []) where
-      grown : record { conflicts = us.conflicts; plans = c.plans; opening = take opening g; kept = ks; served = c.served } ≡ with_event v (Effect d.number)
-      grown = view_grown us.conflicts c.conflicts c.plans (take opening g) c.opening ks c.kept c.served (Effect d.number) v view
+        {bs : List Begun} {fs : List RefusedStep} (first : c.opening ≡ opening_in opening h bs fs) (g : List Event) (events : g ≡ h ++ event_of (courses_in v) d ∷ []) (ks : List Kept) (items : ks ≡ c.kept ++ Effect d.number ∷ []) where
+      grown : record { conflicts = us.conflicts; plans = c.plans; opening = opening_in opening g bs fs; kept = ks; served = c.served } ≡ with_event v (Effect d.number)
+      grown = view_grown us.conflicts c.conflicts c.plans (opening_in opening g bs fs) c.opening ks c.kept c.served (Effect d.number) v view
           (ap (λ (t : Tables). t.conflicts) tables ∙ (same_conflicts p d.process d.step d.work (pending_in (seat_effected d.work (seat_of (courses_in v) (moment_of v) d.process)).instance) ts
           ∙ (ap (λ (t : Tables). t.conflicts) seen.stands.tables ∙ sym (ap (λ (x : CoreState). x.conflicts) view))))
-          (ap (take opening) events ∙ (opening_stays opening h (event_of (courses_in v) d) seen.opened ∙ sym first)) items
+          (ap (λ es. opening_in opening es bs fs) events ∙ (ap (λ es. record { history = es; begun = bs; refused = fs }) (opening_stays opening h (event_of (courses_in v) d) seen.opened) ∙ sym first)) items
 
       -- the core then
-      pub effect_core : record { conflicts = us.conflicts; plans = c.plans; opening = take opening g; kept = ks; served = c.served } ≡ after_call v (finish d.number Done)
+      pub effect_core : record { conflicts = us.conflicts; plans = c.plans; opening = opening_in opening g bs fs; kept = ks; served = c.served } ≡ after_call v (finish d.number Done)
       effect_core = grown ∙ sym (effected_after v d handed gone)
 
       -- what is kept of it
       pub effect_kept : (rs : List SeatState) → rs ≡ slice_set ss (d.process - 1) (seat_effected d.work (seat_of (courses_in v) (moment_of v) d.process)) → (n : ℕ) → n ≡ capacity
-          → IsKept (record { conflicts = us.conflicts; plans = c.plans; opening = take opening g; kept = ks; served = c.served }) g rs us opening most n
+          → IsKept (record { conflicts = us.conflicts; plans = c.plans; opening = opening_in opening g bs fs; kept = ks; served = c.served }) g rs us opening most n
       effect_kept rs seats n room =
           kept_same _ (with_event v (Effect d.number)) g (h ++ event_of (courses_in v) d ∷ []) rs _ us _ n capacity opening most grown events seats tables room
           (kept_after v core (Effect d.number) refl out seen (effect_stands v d handed out p (plan_is v d handed out h ss ts seen.stands p its_seen) h ss ts seen.stands))

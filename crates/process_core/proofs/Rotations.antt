@@ -240,7 +240,7 @@ no_piece (Exhausted b) none = refl
 -- the processes of a core are numbered, and few
 pub numbered_now : (v : CoreState) → IsCore v → starts (moment_of v).events ≡ numbers_from 1 (length v.plans)
 numbered_now v core =
-    let own = run-own_order (relation v) v.plans core.session.good (machine_of v) refl core.session.legal core.session.run in
+    let own = run-own_order (relation v) v.plans core.session.good (machine_of v) refl core.session.legal core.session.marks core.session.run in
     starts_numbered (courses_in v) (moment_of v).events own.legal ∙ ap (numbers_from 1) (sym core.session.one_each)
 
 pub few_plans : (v : CoreState) → IsCore v → length v.plans ≤ 4096

@@ -36,7 +36,7 @@ pub runs_by_seats : (v : CoreState) → IsCore v → list_any (λ (s : SeatState
 runs_by_seats v core = by_out (moment_of v).out refl own.active
   where
     own : InOwnOrder (relation v) v.plans core.session.good (moment_of v)
-    own = run-own_order (relation v) v.plans core.session.good (machine_of v) refl core.session.legal core.session.run
+    own = run-own_order (relation v) v.plans core.session.good (machine_of v) refl core.session.legal core.session.marks core.session.run
 
     out_at : List Piece → ℕ → Bool
     out_at ps i = is_some (option_map (λ (p : Piece). p.number) (find (λ (p : Piece). eqb p.process i) ps))

@@ -21,7 +21,7 @@ use Rattle.schedule_model.proofs.Started.{ends-started}
 use Rattle.machine_model.specs.declared.kept.Kept.{Kept}
 use Rattle.machine_model.specs.declared.kept.Kept.TheVariants.{Start}
 use Rattle.machine_model.specs.Calls.{answer_start, start_unless, started}
-use Rattle.machine_model.specs.Moment.{opening_moment}
+use Rattle.machine_model.specs.Moment.{Opening, opening_moment}
 use Rattle.machine_model.specs.Runs.{start_refusal}
 use Rattle.machine_model.proofs.CoursesRuns.{starts-most}
 use Rattle.machine_model.proofs.RunsWithin.{runs_are_legal}
@@ -57,27 +57,27 @@ module _ (c : CoreState) (core : IsCore c) (p : Plan) where
   i = length (starts (moment_of c).events) + 1
 
   -- who starts now had not ended at the opening
-  not_before : is_in i (ends c.opening) ≡ false
-  not_before = by_end (is_in i (ends c.opening)) refl
+  not_before : is_in i (ends c.opening.history) ≡ false
+  not_before = by_end (is_in i (ends c.opening.history)) refl
     where
-      by_end : (t : Bool) → is_in i (ends c.opening) ≡ t → is_in i (ends c.opening) ≡ false
+      by_end : (t : Bool) → is_in i (ends c.opening.history) ≡ t → is_in i (ends c.opening.history) ≡ false
       by_end false is = is
       by_end true is =
-          let bounds = legal-numbered (relation c) cs c.opening core.session.legal i (ends-started (relation c) cs c.opening core.session.legal i is) in
+          let bounds = legal-numbered (relation c) cs c.opening.history core.session.legal i (ends-started (relation c) cs c.opening.history core.session.legal i is) in
           let high = bounds.1 in
-          let few : length (starts c.opening) ≤ length (starts (moment_of c).events) = starts-most cs cs (relation c) (length cs) (λ k low high'. refl) (opening_moment c.opening) c.kept in
+          let few : length (starts c.opening.history) ≤ length (starts (moment_of c).events) = starts-most cs cs (relation c) (length cs) (λ k low high'. refl) (opening_moment c.opening) c.kept in
           absurd (omega arith)
 
-  since_now : (h : List Event) → starts h ≡ starts (moment_of c).events ++ i ∷ [] → open_since c.opening h ≡ open_since c.opening (history_of c) ++ i ∷ []
+  since_now : (h : List Event) → starts h ≡ starts (moment_of c).events ++ i ∷ [] → open_since c.opening.history h ≡ open_since c.opening.history (history_of c) ++ i ∷ []
   since_now h are =
-      ap (filter (λ j. not (is_in j (ends c.opening)))) are
-      ∙ (filter-append (λ j. not (is_in j (ends c.opening))) (starts (moment_of c).events) (i ∷ [])
-      ∙ ap (λ t. open_since c.opening (history_of c) ++ (if not t then i ∷ [] else [])) not_before)
+      ap (filter (λ j. not (is_in j (ends c.opening.history)))) are
+      ∙ (filter-append (λ j. not (is_in j (ends c.opening.history))) (starts (moment_of c).events) (i ∷ [])
+      ∙ ap (λ t. open_since c.opening.history (history_of c) ++ (if not t then i ∷ [] else [])) not_before)
 
-  room_more : (h : List Event) → starts h ≡ starts (moment_of c).events ++ i ∷ [] → most_kept ds c.opening h ≡ room_of c + kept_for (course_of p)
+  room_more : (h : List Event) → starts h ≡ starts (moment_of c).events ++ i ∷ [] → most_kept ds c.opening.history h ≡ room_of c + kept_for (course_of p)
   room_more h are =
       let f : ℕ → ℕ = λ j. kept_for (course ds j) in
-      let since = open_since c.opening (history_of c) in
+      let since = open_since c.opening.history (history_of c) in
       let sums = ap (sum_by f) (since_now h are) ∙ sum_by-append f since (i ∷ []) in
       let same = sum_among f (λ j. kept_for (course cs j)) since (each_since since refl) in
       let own = ap kept_for (its_course c core p) in
@@ -88,9 +88,9 @@ module _ (c : CoreState) (core : IsCore c) (p : Plan) where
       among [] each = tt
       among (j ∷ js) each = (ap kept_for (sym (same_started c core p j each.0)), among js each.1)
 
-      each_since : (js : List ℕ) → js ≡ open_since c.opening (history_of c) → Each (λ j. kept_for (course ds j) ≡ kept_for (course cs j)) js
+      each_since : (js : List ℕ) → js ≡ open_since c.opening.history (history_of c) → Each (λ j. kept_for (course ds j) ≡ kept_for (course cs j)) js
       each_since js are' = among js (subst (Each (λ j. is_in j (starts (moment_of c).events) ≡ true)) (sym are')
-          (Each-filter (λ j. is_in j (starts (moment_of c).events) ≡ true) (λ j. not (is_in j (ends c.opening))) (starts (moment_of c).events) (each_listed (starts (moment_of c).events))))
+          (Each-filter (λ j. is_in j (starts (moment_of c).events) ≡ true) (λ j. not (is_in j (ends c.opening.history))) (starts (moment_of c).events) (each_listed (starts (moment_of c).events))))
 
   -- its row isn't there yet
   pub not_open_yet : (ts : Tables) → ts ≡ tables_of c.conflicts (courses_in c) (moment_of c) → is_open ts (length (starts (moment_of c).events) + 1) ≡ false
@@ -121,7 +121,7 @@ module _ (c : CoreState) (core : IsCore c) (p : Plan) where
 
       room_then : room_of (with_start c p) ≡ most + kept_for (course_of p)
       room_then =
-          ap (λ xs. most_kept xs c.opening (history_of (with_start c p))) (map-append course_of c.plans (p ∷ []))
+          ap (λ xs. most_kept xs c.opening.history (history_of (with_start c p))) (map-append course_of c.plans (p ∷ []))
           ∙ (room_more (history_of (with_start c p)) (ap starts (stands.events ∙ ap (λ g. g ++ Started i ∷ []) (sym kept.stands.events)) ∙ starts-append (history_of c) (Started i ∷ []))
           ∙ ap (λ n. n + kept_for (course_of p)) (sym kept.room))
 
@@ -153,7 +153,7 @@ pub roomier : {c : CoreState} {h : List Event} {ss : List SeatState} {ts : Table
 roomier room more kept = record { stands = kept.stands; opened = kept.opened; room = kept.room; taken = let fits = kept.taken in omega arith }
 
 -- what a core is seen as once this plan has started
-pub view_started : (t u : Table) (ps plans : List Plan) (g h : List Event) (js ks : List Kept) (served : ℕ) (p : Plan) (i : ℕ) (c : CoreState)
+pub view_started : (t u : Table) (ps plans : List Plan) (g h : Opening) (js ks : List Kept) (served : ℕ) (p : Plan) (i : ℕ) (c : CoreState)
     → record { conflicts = u; plans = plans; opening = h; kept = ks; served = served } ≡ c → i ≡ length (starts (moment_of c).events) + 1
     → t ≡ u → ps ≡ plans ++ p ∷ [] → g ≡ h → js ≡ ks ++ Start i ∷ [] → record { conflicts = t; plans = ps; opening = g; kept = js; served = served } ≡ with_start c p
 view_started t u ps plans g h js ks served p i c is next tables more opening kept =

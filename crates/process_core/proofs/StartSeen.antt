@@ -3,6 +3,8 @@ use Rattle.std.proofs.Common.{◌≡◌, ◌∙◌, ℕ, ◌+◌, ◌≤◌, ◌
 use Rattle.process_tree.specs.declared.plan.Plan.{Plan}
 use Rattle.process_tree.specs.Blocks.{outline}
 use Rattle.schedule_model.specs.declared.event.Event.{Event}
+use Rattle.schedule_model.specs.declared.marks.Begun.{Begun}
+use Rattle.schedule_model.specs.declared.marks.RefusedStep.{RefusedStep}
 use Rattle.schedule_model.specs.declared.event.Event.TheVariants.{Start as Started}
 use Rattle.schedule_model.specs.Course.{course_of}
 use Rattle.machine_model.specs.declared.kept.Kept.{Kept}
@@ -13,7 +15,7 @@ use Rattle.hold_tables.specs.Changes.{opened}
 use Rattle.hold_tables.specs.Spare.{IsRoomIn}
 use Rattle.hold_tables.specs.Tables.{Tables, is_open}
 use Rattle.process_core.specs.Answers.{after_start, answer_in}
-use Rattle.core_state.specs.Cores.{CoreState}
+use Rattle.core_state.specs.Cores.{CoreState, opening_in}
 use Rattle.core_state.specs.Room.{IsKept}
 use Rattle.core_state.specs.Seats.{SeatState}
 use Rattle.process_core.specs.StartRoom.{IsRoomFor, StartRoomState}
@@ -54,20 +56,20 @@ module _ {c v : CoreState} {h : List Event} {ss : List SeatState} {ts : Tables} 
     pub start_reply : (answer_in v (start (course_of s.plan))).reply ≡ started (n + 1)
     start_reply = ap (λ (x : StartRoomState). (answer_in v (start (course_of x.plan))).reply) (sym same) ∙ reply_in_room v h ss ts opening most capacity seen r room n count
 
-    module _ (first : c.opening ≡ take opening h) (us : Tables) (tables : us ≡ opened (n + 1) (length (outline r.plan.tree).steps) ts) (ps : List Plan) (plans : ps ≡ c.plans ++ r.plan ∷ [])
+    module _ {bs : List Begun} {fs : List RefusedStep} (first : c.opening ≡ opening_in opening h bs fs) (us : Tables) (tables : us ≡ opened (n + 1) (length (outline r.plan.tree).steps) ts) (ps : List Plan) (plans : ps ≡ c.plans ++ r.plan ∷ [])
         (g : List Event) (events : g ≡ h ++ Started (n + 1) ∷ []) (ks : List Kept) (items : ks ≡ c.kept ++ Start (n + 1) ∷ []) where
-      grown : record { conflicts = us.conflicts; plans = ps; opening = take opening g; kept = ks; served = c.served } ≡ with_start v r.plan
-      grown = view_started us.conflicts c.conflicts ps c.plans (take opening g) c.opening ks c.kept c.served r.plan (n + 1) v view (next_number v h ss ts opening most capacity seen r room n count)
+      grown : record { conflicts = us.conflicts; plans = ps; opening = opening_in opening g bs fs; kept = ks; served = c.served } ≡ with_start v r.plan
+      grown = view_started us.conflicts c.conflicts ps c.plans (opening_in opening g bs fs) c.opening ks c.kept c.served r.plan (n + 1) v view (next_number v h ss ts opening most capacity seen r room n count)
           (ap (λ (t : Tables). t.conflicts) tables ∙ (ap (λ (t : Tables). t.conflicts) seen.stands.tables ∙ sym (ap (λ (x : CoreState). x.conflicts) view))) plans
-          (ap (take opening) events ∙ (opening_stays opening h (Started (n + 1)) seen.opened ∙ sym first)) items
+          (ap (λ es. opening_in opening es bs fs) events ∙ (ap (λ es. record { history = es; begun = bs; refused = fs }) (opening_stays opening h (Started (n + 1)) seen.opened) ∙ sym first)) items
 
       -- the core once it has started
-      pub start_core : record { conflicts = us.conflicts; plans = ps; opening = take opening g; kept = ks; served = c.served } ≡ after_start v s.plan
+      pub start_core : record { conflicts = us.conflicts; plans = ps; opening = opening_in opening g bs fs; kept = ks; served = c.served } ≡ after_start v s.plan
       start_core = grown ∙ (sym (core_in_room v h ss ts opening most capacity seen r room) ∙ ap (λ (x : StartRoomState). after_start v x.plan) same)
 
       -- what is kept of it then
       pub start_stands : (rs : List SeatState) → rs ≡ ss ++ record { instance = Some (instance_opened r.plan []); out = None; lost = None; began = None } ∷ [] → (m l : ℕ) → m ≡ l → r.kept ≤ l
-          → IsKept (record { conflicts = us.conflicts; plans = ps; opening = take opening g; kept = ks; served = c.served }) g rs us opening r.kept m
+          → IsKept (record { conflicts = us.conflicts; plans = ps; opening = opening_in opening g bs fs; kept = ks; served = c.served }) g rs us opening r.kept m
       start_stands rs seats m l capacities more =
           kept_same _ (with_start v r.plan) g (h ++ Started (n + 1) ∷ []) rs _ us _ m l opening r.kept grown events seats tables capacities
           (kept_in_room v h ss ts opening most capacity seen r room n count l more)

@@ -1,6 +1,6 @@
 // The core: its opening, and what is read of it.
 ghost use Rattle.std.specs.Prelude.{◌≡◌, IfOk};
-ghost use Rattle.core_state.specs.Cores.{IsCore, IsHandedBy, began_in, history_of, moment_of, opened_on};
+ghost use Rattle.core_state.specs.Cores.{IsCore, IsHandedBy, began_in, history_of, moment_of, opened_at, opening_of};
 ghost use Rattle.machine_model.specs.Pieces.{state_of};
 ghost use Rattle.process_core.specs.Moments.{undo_next_in};
 
@@ -32,8 +32,8 @@ pub struct Core {
 }
 
 impl Model for Core {
-    ghost use Rattle.std.specs.Prelude.{take, vec_capacity};
-    ghost use Rattle.core_state.specs.Cores.{CoreState};
+    ghost use Rattle.std.specs.Prelude.{vec_capacity};
+    ghost use Rattle.core_state.specs.Cores.{CoreState, opening_in};
     ghost use Rattle.core_state.specs.Room.{IsKept};
 
     ghost Value = { CoreState };
@@ -46,7 +46,7 @@ impl Model for Core {
     ghost view = { λ c. record {
       conflicts = c.holds.conflicts;
       plans = c.history.plans;
-      opening = take c.opening c.history.events;
+      opening = opening_in c.opening c.history.events c.history.begun c.history.refused;
       kept = c.kept.items;
       served = c.served;
     } };
@@ -54,17 +54,18 @@ impl Model for Core {
     ghost invariant = { λ c. IsKept (record {
       conflicts = c.holds.conflicts;
       plans = c.history.plans;
-      opening = take c.opening c.history.events;
+      opening = opening_in c.opening c.history.events c.history.begun c.history.refused;
       kept = c.kept.items;
       served = c.served;
     }) c.history.events c.seats.items c.holds c.opening c.most (vec_capacity c.kept) };
 }
 
 impl Core {
-    /// Opens on a legal history within the limits, over a table that has the operations of its plans.
+    /// Opens on a legal history within the limits, to which its beginnings and refusals belong, over a table that has the operations of its
+    /// plans.
     pub fn open(alloc: Global, history: History, c: Conflicts) -> Result<Core, AllocError>
-        requires { IsCore (opened_on c history.plans history.events) }
-        ensures { IfOk result (λ core. core ≡ opened_on c history.plans history.events) }
+        requires { IsCore (opened_at c history.plans (opening_of history)) }
+        ensures { IfOk result (λ core. core ≡ opened_at c history.plans (opening_of history)) }
     {
         let seats = opened_seats(alloc, &history)?;
         let holds = opened_tables(alloc, &history, &c, &seats)?;

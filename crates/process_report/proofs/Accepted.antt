@@ -18,7 +18,7 @@ use Rattle.schedule_model.specs.Conflict.{ConflictRelation}
 use Rattle.schedule_model.specs.Reduction.{can_change, is_pair, applied_all, is_serial}
 use Rattle.schedule_model.proofs.Chains.{applied-steps_reduce}
 use Rattle.schedule_model.proofs.Members.{Among}
-use Rattle.machine_model.specs.declared.began.Cause.{Cause}
+use Rattle.schedule_model.specs.declared.marks.Cause.{Cause}
 use Rattle.trace_verify.specs.declared.form.Form.{Form}
 use Rattle.trace_verify.specs.declared.verdict.Verified.TheVariants.{Accepted}
 use Rattle.trace_verify.specs.Forms.{NamedAct}

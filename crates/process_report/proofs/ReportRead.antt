@@ -15,7 +15,7 @@ use Rattle.schedule_model.specs.Histories.{acts, is_active, net_steps}
 use Rattle.schedule_model.specs.PrintedTrace.{Trace}
 use Rattle.schedule_model.proofs.Appends.{acts-append}
 use Rattle.schedule_model.proofs.Members.{Among}
-use Rattle.machine_model.specs.declared.began.Cause.{Cause}
+use Rattle.schedule_model.specs.declared.marks.Cause.{Cause}
 use Rattle.trace_verify.specs.declared.form.Form.{Form}
 use Rattle.trace_verify.specs.declared.form.Form.TheVariants.{Plain, Keyed}
 use Rattle.trace_verify.specs.declared.section.Section.TheVariants.{Conflicts, History as InHistory, Completion, Serial}

@@ -32,8 +32,8 @@ use Rattle.schedule_model.proofs.ReductionLaws.{reduction-law}
 use Rattle.schedule_model.proofs.StandingLaws.{completed-legal}
 use Rattle.schedule_model.proofs.Started.{acts-started, ends-started, among_net_of}
 use Rattle.schedule_model.proofs.WithinLimits.{completed-stands_within, starts-completion}
-use Rattle.machine_model.specs.declared.began.Cause.{Cause}
-use Rattle.machine_model.specs.declared.began.Cause.TheVariants.{Refused, Abort, Cascade, Victim, Restart}
+use Rattle.schedule_model.specs.declared.marks.Cause.{Cause}
+use Rattle.schedule_model.specs.declared.marks.Cause.TheVariants.{Refused, Abort, Cascade, Victim, Restart}
 use Rattle.trace_verify.specs.declared.verdict.Verified.TheVariants.{Accepted}
 use Rattle.trace_verify.specs.Verdicts.{verdict}
 use Rattle.trace_verify.proofs.StepsApplied.{each-kept}

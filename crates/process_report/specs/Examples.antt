@@ -14,7 +14,7 @@ use Rattle.schedule_model.specs.declared.event.Event.{Event}
 use Rattle.schedule_model.specs.declared.event.Event.TheVariants.{Start, Act, End}
 use Rattle.schedule_model.specs.declared.history.History.{History}
 use Rattle.schedule_model.specs.PlannedExample.{plain_step, two_steps}
-use Rattle.machine_model.specs.declared.began.Cause.TheVariants.{Abort, Cascade}
+use Rattle.schedule_model.specs.declared.marks.Cause.TheVariants.{Abort, Cascade}
 use Rattle.machine_model.specs.declared.blocked.Rule.TheVariants.{A1, A3}
 use Rattle.process_report.specs.Report.{report_text}
 use Rattle.process_report.specs.Blocks.{block_text}

@@ -12,7 +12,7 @@ use Rattle.schedule_model.specs.declared.event.Event.{Event}
 use Rattle.schedule_model.specs.declared.event.Event.TheVariants.{Start, Act, End}
 use Rattle.schedule_model.specs.declared.history.History.{History}
 use Rattle.schedule_model.specs.PlannedExample.{plain_step, two_steps}
-use Rattle.machine_model.specs.declared.began.Cause.TheVariants.{Abort}
+use Rattle.schedule_model.specs.declared.marks.Cause.TheVariants.{Abort}
 use Rattle.process_report.specs.Examples.{stock}
 use Rattle.process_report.specs.Report.{report_text}
 

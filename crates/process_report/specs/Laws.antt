@@ -12,8 +12,8 @@ use Rattle.schedule_model.specs.Course.{courses_of}
 use Rattle.schedule_model.specs.Laws.{IsPlanned}
 use Rattle.schedule_model.specs.Legal.{is_legal}
 use Rattle.schedule_model.specs.Limits.{is_within_limits}
-use Rattle.machine_model.specs.declared.began.Cause.{Cause}
-use Rattle.machine_model.specs.declared.began.Cause.TheVariants.{Refused, Abort, Cascade, Victim, Restart}
+use Rattle.schedule_model.specs.declared.marks.Cause.{Cause}
+use Rattle.schedule_model.specs.declared.marks.Cause.TheVariants.{Refused, Abort, Cascade, Victim, Restart}
 use Rattle.trace_verify.specs.declared.form.Form.{Form}
 use Rattle.trace_verify.specs.declared.form.Form.TheVariants.{Plain, Keyed}
 use Rattle.trace_verify.specs.declared.verdict.Verified.TheVariants.{Accepted}

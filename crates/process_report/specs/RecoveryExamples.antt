@@ -9,7 +9,7 @@ use Rattle.process_tree.specs.declared.plan.Plan.{Plan}
 use Rattle.schedule_model.specs.declared.event.Event.TheVariants.{Start, End}
 use Rattle.schedule_model.specs.declared.history.History.{History}
 use Rattle.schedule_model.specs.PlannedExample.{plain_step, two_steps}
-use Rattle.machine_model.specs.declared.began.Cause.TheVariants.{Refused, Abort, Cascade, Victim, Restart}
+use Rattle.schedule_model.specs.declared.marks.Cause.TheVariants.{Refused, Abort, Cascade, Victim, Restart}
 use Rattle.process_report.specs.Examples.{did, undid, stock, stock_conflicts}
 use Rattle.process_report.specs.Report.{report_text}
 

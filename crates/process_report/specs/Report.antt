@@ -13,7 +13,7 @@ use Rattle.schedule_model.specs.Completion.{completion}
 use Rattle.schedule_model.specs.Course.{courses_of}
 use Rattle.schedule_model.specs.Histories.{is_active, net_steps}
 use Rattle.schedule_model.specs.PrintedTrace.{Trace, printed_trace}
-use Rattle.machine_model.specs.declared.began.Cause.{Cause}
+use Rattle.schedule_model.specs.declared.marks.Cause.{Cause}
 use Rattle.trace_verify.specs.declared.form.Form.{Form}
 use Rattle.trace_verify.specs.declared.form.Form.TheVariants.{Plain, Keyed}
 use Rattle.trace_verify.specs.Forms.{first_title}

@@ -8,7 +8,7 @@ use Rattle.schedule_model.specs.Course.{Course}
 use Rattle.schedule_model.specs.Histories.{active, is_active, is_in, starts}
 use Rattle.schedule_model.proofs.Active.{is_active-is_in}
 use Rattle.schedule_model.proofs.Appends.{starts-append}
-use Rattle.machine_model.specs.declared.began.Cause.TheVariants.{Restart as ByRestart}
+use Rattle.schedule_model.specs.declared.marks.Cause.TheVariants.{Restart as ByRestart}
 use Rattle.machine_model.specs.declared.kept.Kept.{Kept}
 use Rattle.machine_model.specs.declared.kept.Kept.TheVariants.{Start, Hand, Effect, Refuse, Abort, Victim, Restart}
 use Rattle.machine_model.specs.declared.kept.Work.{Work}

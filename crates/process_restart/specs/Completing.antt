@@ -7,8 +7,8 @@ use Rattle.schedule_model.specs.declared.history.History.{History}
 use Rattle.schedule_model.specs.Histories.{active}
 use Rattle.reduction_trace.specs.Whole.{completed_history}
 use Rattle.commute_table.specs.declared.catalog.Catalog.{Catalog}
-use Rattle.machine_model.specs.declared.began.Cause.{Cause}
-use Rattle.machine_model.specs.declared.began.Cause.TheVariants.{Restart as ByRestart}
+use Rattle.schedule_model.specs.declared.marks.Cause.{Cause}
+use Rattle.schedule_model.specs.declared.marks.Cause.TheVariants.{Restart as ByRestart}
 use Rattle.machine_model.specs.declared.kept.Kept.{Kept}
 use Rattle.machine_model.specs.declared.kept.Kept.TheVariants.{Hand}
 use Rattle.machine_model.specs.Calls.{complete_all}

@@ -16,7 +16,7 @@ use Rattle.subsystem_store.specs.Values.{values}
 use Rattle.process_journal.specs.Journals.{IsHistoryUnder}
 use Rattle.process_journal.specs.Laws.{beginning}
 use Rattle.history_files.specs.Sound.{IsBookOf, IsSound}
-use Rattle.machine_model.specs.declared.began.Cause.{Cause}
+use Rattle.schedule_model.specs.declared.marks.Cause.{Cause}
 use Rattle.process_report.specs.Report.{report_text}
 use Rattle.value_conflict.specs.ValueConflict.{IsValueSound}
 use Rattle.value_rules.specs.HistoryValues.{KeepsValues, StandsBefore, value_after}

@@ -11,8 +11,8 @@ use Rattle.schedule_model.specs.Histories.{is_active, is_in}
 use Rattle.schedule_model.specs.Holdings.{holders}
 use Rattle.schedule_model.specs.Laws.{AreGood}
 use Rattle.schedule_model.proofs.Active.{is_active-is_in}
-use Rattle.machine_model.specs.declared.began.Cause.{Cause}
-use Rattle.machine_model.specs.declared.began.Cause.TheVariants.{Refused}
+use Rattle.schedule_model.specs.declared.marks.Cause.{Cause}
+use Rattle.schedule_model.specs.declared.marks.Cause.TheVariants.{Refused}
 use Rattle.machine_model.specs.declared.kept.Kept.{Kept}
 use Rattle.machine_model.specs.declared.kept.Kept.TheVariants.{Start, Hand, Effect, Refuse, Abort, Victim, Restart}
 use Rattle.machine_model.specs.Advance.{advance, advance_all, cascade_of}

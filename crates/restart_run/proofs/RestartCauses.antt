@@ -16,8 +16,8 @@ use Rattle.schedule_model.proofs.Active.{is_active-is_in}
 use Rattle.schedule_model.proofs.Appends.{starts-append}
 use Rattle.schedule_model.proofs.WithinLimits.{starts-completion}
 use Rattle.commute_table.specs.declared.catalog.Catalog.{Catalog}
-use Rattle.machine_model.specs.declared.began.Cause.{Cause}
-use Rattle.machine_model.specs.declared.began.Cause.TheVariants.{Restart as ByRestart}
+use Rattle.schedule_model.specs.declared.marks.Cause.{Cause}
+use Rattle.schedule_model.specs.declared.marks.Cause.TheVariants.{Restart as ByRestart}
 use Rattle.machine_model.specs.declared.kept.Kept.{Kept}
 use Rattle.machine_model.specs.declared.kept.Kept.TheVariants.{Restart}
 use Rattle.machine_model.specs.Advance.{advance, advance_all}

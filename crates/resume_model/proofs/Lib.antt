@@ -1,10 +1,4 @@
-pub mod Started
-pub mod Openings
 pub mod Standing
 pub mod Stops
-pub mod MomentLaws
-pub mod Calls
 pub mod Rest
-pub mod Starts
-pub mod Flushes
 pub mod StopsFree

@@ -7,6 +7,7 @@ use Rattle.process_tree.specs.declared.entry.Entry.{Entry}
 use Rattle.process_tree.specs.declared.plan.Plan.{Plan}
 use Rattle.schedule_model.specs.declared.event.Event.{Event}
 use Rattle.schedule_model.specs.declared.event.Event.TheVariants.{Start, Act, End}
+use Rattle.schedule_model.specs.declared.marks.Begun.{Begun}
 use Rattle.schedule_model.specs.Course.{Course, courses_of}
 use Rattle.schedule_model.specs.Conflict.{ConflictRelation, IsSymmetric, conflict, no_conflict}
 use Rattle.schedule_model.specs.Histories.{active, ends, is_active, is_in, net, net_of, starts}
@@ -21,17 +22,18 @@ use Rattle.schedule_model.proofs.Induction.{by_legal}
 use Rattle.schedule_model.proofs.Members.{Among, all-from_among, among-any, among-is_in, among-map, any-among, in_map, is_in-among}
 use Rattle.schedule_model.proofs.Prefixes.{Numbered, numbered_by}
 use Rattle.schedule_model.proofs.Started.{among_net_of, net-started}
-use Rattle.machine_model.specs.Moment.{Beginning, has_begun}
+use Rattle.machine_model.specs.Moment.{Beginning, Opening, beginning, has_begun, on_history, opening_moment}
 use Rattle.machine_model.specs.Progress.{staying}
 use Rattle.machine_model.specs.State.{is_pending, pending_of, progress}
+use Rattle.machine_model.specs.Sound.{do_marks_belong, is_beginning_of, is_closed, is_closed_behind, is_sound, restarted, restarting}
+use Rattle.machine_model.proofs.EndedFree.{EndedFacts, opening-ended_free}
+use Rattle.machine_model.proofs.FixedFree.{FixedFacts, opening-fixed_free}
+use Rattle.machine_model.proofs.OwnOrder.{InOwnOrder, run-own_order}
 use Rattle.machine_model.proofs.Counting.{count, count-map, count-none, count-push, count-split, found-any}
 use Rattle.machine_model.proofs.OneOut.{count-filter}
 use Rattle.machine_model.proofs.PendingClosed.{pending_if_begun}
 use Rattle.machine_model.proofs.PendingFree.{in_whole}
-use Rattle.resume_model.specs.MomentLaws.{RestIsSound}
-use Rattle.resume_model.specs.Openings.{Begun, Opening, beginning, on_history, opened, restarted, restarting}
-use Rattle.resume_model.specs.Sound.{is_beginning_of, is_closed, is_closed_behind, is_sound}
-use Rattle.resume_model.proofs.Openings.{opened-ended, opened-fixed, opened-own}
+use Rattle.resume_model.specs.StopLaws.{RestIsSound}
 
 -- Nobody starts twice in a legal history.
 abbrev StartOnce : List Event → Type 0
@@ -86,60 +88,75 @@ module _ (table : ConflictRelation) (symmetric : IsSymmetric table) (plans : Lis
   abbrev cs : List Course
   cs = courses_of plans
 
+  -- a sound opening, from its parts
+  sound_from : (p : Opening) → p.history ≡ h → do_marks_belong cs p ≡ true → is_closed table cs (opening_moment p) ≡ true → is_sound table cs p ≡ true
+  sound_from p same marks closed =
+      and_from ((is_legal table cs p.history && is_within_limits cs p.history) && do_marks_belong cs p) (is_closed table cs (opening_moment p))
+      (and_from (is_legal table cs p.history && is_within_limits cs p.history) (do_marks_belong cs p)
+      (and_from (is_legal table cs p.history) (is_within_limits cs p.history) (ap (is_legal table cs) same ∙ legal) (ap (is_within_limits cs) same ∙ within)) marks) closed
+
   at_rest_sound : active h ≡ [] → is_sound table cs (on_history h) ≡ true
   at_rest_sound none =
-      and_from _ (is_closed table cs (opened (on_history h))) (and_from (((is_legal table cs h && is_within_limits cs h) && true)) true (and_from (is_legal table cs h && is_within_limits cs h) true (and_from (is_legal table cs h) (is_within_limits cs h) legal within) refl) refl)
-      (ap (list_all (λ i. list_all (is_closed_behind table cs (opened (on_history h))) (pending_of cs (opened (on_history h)) i))) none)
+      sound_from (on_history h) refl refl (ap (list_all (λ i. list_all (is_closed_behind table cs (opening_moment (on_history h))) (pending_of cs (opening_moment (on_history h)) i))) none)
 
   abbrev o : Opening
   o = restarting h
 
-  begun_well : (c : Begun) → Among c (map restarted (active h)) → is_beginning_of o c ≡ true
+  begun_well : (c : Begun) → Among c (map (restarted (length h)) (active h)) → is_beginning_of o c ≡ true
   begun_well c among =
-      let i = among-map restarted c (active h) among in
+      let i = among-map (restarted (length h)) c (active h) among in
       let goes : is_active h i.0 ≡ true = sym (is_active-is_in h i.0) ∙ is_in-among i.0 (active h) i.1 in
-      let all = count-filter (λ (d : Begun). eqb d.process i.0) (map restarted (active h)) in
-      let mapped = count-map (λ (d : Begun). eqb d.process i.0) restarted (active h) in
+      let all = count-filter (λ (d : Begun). eqb d.process i.0) (map (restarted (length h)) (active h)) in
+      let mapped = count-map (λ (d : Begun). eqb d.process i.0) (restarted (length h)) (active h) in
       let few = active_once table cs h legal i.0 in
       subst (λ d. is_beginning_of o d ≡ true) i.2
       (and_from (is_in i.0 (starts h)) _ (and_parts (is_in i.0 (starts h)) (not (is_in i.0 (ends h))) goes).0
-      (le-leb (length (filter (λ (d : Begun). eqb d.process i.0) (map restarted (active h)))) 1 (omega arith)))
+      (le-leb (length (filter (λ (d : Begun). eqb d.process i.0) (map (restarted (length h)) (active h)))) 1 (omega arith)))
 
-  all_begun : (i : ℕ) → is_active h i ≡ true → has_begun (opened o) i ≡ true
+  belongs : do_marks_belong cs o ≡ true
+  belongs = and_from (list_all (is_beginning_of o) o.begun) true (all-from_among (is_beginning_of o) (map (restarted (length h)) (active h)) begun_well) refl
+
+  opened-own : InOwnOrder table plans good (opening_moment o)
+  opened-own = run-own_order table plans good (record { opening = o; courses = courses_of plans; kept = []; served = 0 }) refl legal belongs refl
+
+  opened-fixed : FixedFacts table symmetric plans good (opening_moment o)
+  opened-fixed = opening-fixed_free table symmetric plans good o legal opened-own
+
+  opened-ended : EndedFacts table symmetric plans good (opening_moment o)
+  opened-ended = opening-ended_free table symmetric plans good o legal opened-own
+
+  all_begun : (i : ℕ) → is_active h i ≡ true → has_begun (opening_moment o) i ≡ true
   all_begun i goes =
-      found-any (λ (b : Beginning). eqb b.process i) (map beginning (map restarted (active h)))
-      ∙ any-among (λ (b : Beginning). eqb b.process i) (beginning (restarted i)) (map beginning (map restarted (active h)))
-      (in_map beginning (restarted i) (map restarted (active h)) (in_map restarted i (active h) (among-is_in i (active h) (is_active-is_in h i ∙ goes)))) (eq-eqb i i refl)
+      found-any (λ (b : Beginning). eqb b.process i) (map beginning (map (restarted (length h)) (active h)))
+      ∙ any-among (λ (b : Beginning). eqb b.process i) (beginning (restarted (length h) i)) (map beginning (map (restarted (length h)) (active h)))
+      (in_map beginning (restarted (length h) i) (map (restarted (length h)) (active h)) (in_map (restarted (length h)) i (active h) (among-is_in i (active h) (is_active-is_in h i ∙ goes)))) (eq-eqb i i refl)
 
-  closed_behind : (i : ℕ) → is_active h i ≡ true → (x : Entry) → Among x (pending_of cs (opened o) i) → is_closed_behind table cs (opened o) x ≡ true
+  closed_behind : (i : ℕ) → is_active h i ≡ true → (x : Entry) → Among x (pending_of cs (opening_moment o) i) → is_closed_behind table cs (opening_moment o) x ≡ true
   closed_behind i goes x pend =
-      all-from_among (λ (e : Entry). not (conflict table x e) || is_pending cs (opened o) e) (behind x (net h)) (λ e back. by_test e back (conflict table x e) refl)
+      all-from_among (λ (e : Entry). not (conflict table x e) || is_pending cs (opening_moment o) e) (behind x (net h)) (λ e back. by_test e back (conflict table x e) refl)
     where
       found : Among x (net h) × (x.process ≡ i)
-      found = among_net_of h i x (in_whole x (staying (progress cs (opened o) i)) (net_of h i) pend)
+      found = among_net_of h i x (in_whole x (staying (progress cs (opening_moment o) i)) (net_of h i) pend)
 
       x_goes : is_active h x.process ≡ true
       x_goes = ap (is_active h) found.1 ∙ goes
 
       e_goes : (e : Entry) → Among e (behind x (net h)) → conflict table x e ≡ true → (t : Bool) → is_in e.process (ends h) ≡ t → is_active h e.process ≡ true
-      e_goes e back conflicts true is = absurd (false≢true (sym ((opened-ended table symmetric plans good o legal refl).free x e x_goes is found.0 back) ∙ conflicts))
+      e_goes e back conflicts true is = absurd (false≢true (sym (opened-ended.free x e x_goes is found.0 back) ∙ conflicts))
       e_goes e back conflicts false is =
-          and_from (is_in e.process (starts h)) (not (is_in e.process (ends h))) (net-started no_conflict cs h (opened-own table symmetric plans good o legal refl).legal e (among_behind x e (net h) back)) (ap not is)
+          and_from (is_in e.process (starts h)) (not (is_in e.process (ends h))) (net-started no_conflict cs h opened-own.legal e (among_behind x e (net h) back)) (ap not is)
 
-      by_test : (e : Entry) → Among e (behind x (net h)) → (t : Bool) → conflict table x e ≡ t → (not t || is_pending cs (opened o) e) ≡ true
+      by_test : (e : Entry) → Among e (behind x (net h)) → (t : Bool) → conflict table x e ≡ t → (not t || is_pending cs (opening_moment o) e) ≡ true
       by_test e back false apart = refl
       by_test e back true conflicts =
-          pending_if_begun table symmetric plans good (opened o) (opened-fixed table symmetric plans good o legal refl) (opened-ended table symmetric plans good o legal refl) x e x_goes found.0 back conflicts
+          pending_if_begun table symmetric plans good (opening_moment o) opened-fixed opened-ended x e x_goes found.0 back conflicts
           (all_begun e.process (e_goes e back conflicts (is_in e.process (ends h)) refl))
 
   restarting_sound : is_sound table cs o ≡ true
   restarting_sound =
-      let begun = list_all (is_beginning_of o) o.begun in
-      and_from (((is_legal table cs h && is_within_limits cs h) && begun) && true) _
-      (and_from ((is_legal table cs h && is_within_limits cs h) && begun) true
-      (and_from (is_legal table cs h && is_within_limits cs h) begun (and_from (is_legal table cs h) (is_within_limits cs h) legal within) (all-from_among (is_beginning_of o) (map restarted (active h)) begun_well)) refl)
-      (all-from_among (λ i. list_all (is_closed_behind table cs (opened o)) (pending_of cs (opened o) i)) (active h)
-      (λ i among. all-from_among (is_closed_behind table cs (opened o)) (pending_of cs (opened o) i) (closed_behind i (sym (is_active-is_in h i) ∙ is_in-among i (active h) among))))
+      sound_from o refl belongs
+      (all-from_among (λ i. list_all (is_closed_behind table cs (opening_moment o)) (pending_of cs (opening_moment o) i)) (active h)
+      (λ i among. all-from_among (is_closed_behind table cs (opening_moment o)) (pending_of cs (opening_moment o) i) (closed_behind i (sym (is_active-is_in h i) ∙ is_in-among i (active h) among))))
 
 pub rest_is_sound : RestIsSound
 rest_is_sound table plans h symmetric good legal within = (at_rest_sound table symmetric plans good h legal within, restarting_sound table symmetric plans good h legal within)

@@ -5,6 +5,8 @@ use Rattle.std.specs.Option.{option_to_list}
 use Rattle.std.proofs.lemmas.Bool.{and_from, and_parts, eq-eqb, eqb-true, false≢true}
 use Rattle.process_tree.specs.declared.entry.Entry.{Entry}
 use Rattle.process_tree.specs.Recovery.{StepClass, committing, reserved, undoable}
+use Rattle.schedule_model.specs.declared.marks.Begun.{Begun}
+use Rattle.schedule_model.specs.declared.marks.RefusedStep.{RefusedStep}
 use Rattle.schedule_model.specs.Course.{Course}
 use Rattle.schedule_model.specs.Conflict.{ConflictRelation, conflict}
 use Rattle.schedule_model.specs.Graph.{Walk, and_then, one_arrow}
@@ -19,55 +21,57 @@ use Rattle.schedule_model.proofs.Walks.{leads-from_walk, walk-from_leads}
 use Rattle.machine_model.specs.declared.kept.Work.{Work}
 use Rattle.machine_model.specs.declared.kept.Work.TheVariants.{Forward, Undo, End}
 use Rattle.machine_model.specs.Blocks.{blocks_of, least_block}
-use Rattle.machine_model.specs.Moment.{Moment}
+use Rattle.machine_model.specs.Moment.{Moment, Opening, opening_moment}
 use Rattle.machine_model.specs.Pieces.{running_of}
 use Rattle.machine_model.specs.Progress.{Task}
-use Rattle.machine_model.specs.State.{against_task, against_work, hold_of, holdings, next_of, owed_soon}
+use Rattle.machine_model.specs.State.{against_task, against_work, block_of, hold_of, holdings, next_of, owed_soon}
 use Rattle.machine_model.proofs.Clear.{clear-none, none-clear}
 use Rattle.machine_model.proofs.OpenHoldings.{holders-active}
-use Rattle.resume_model.specs.Openings.{opened}
-use Rattle.resume_model.specs.Resumed.{stopped}
+use Rattle.resume_model.specs.Stopped.{IsLeftBy}
 use Rattle.resume_model.specs.StopLaws.{StopsBlockNobody}
 use Rattle.resume_model.proofs.Stops.{goes-on, pending_same}
 
-module _ (table : ConflictRelation) (courses : List Course) (m : Moment) where
+module _ (table : ConflictRelation) (courses : List Course) (m : Moment) (begun : List Begun) (refused : List RefusedStep) (left : IsLeftBy courses m (record { history = m.events; begun = begun; refused = refused })) where
+  abbrev o : Opening
+  o = record { history = m.events; begun = begun; refused = refused }
+
   abbrev before : Holdings
   before = holdings courses m
 
   abbrev after : Holdings
-  after = holdings courses (opened (stopped courses m))
+  after = holdings courses (opening_moment o)
 
   nothing_runs : (x : Entry) → Among x (all_running after) → ⊥
   nothing_runs x is =
       let found = among-flat_map (λ (o : Hold). option_to_list o.running) x after.holds is in
-      let own = among-map (hold_of courses (opened (stopped courses m))) found.0 (active m.events) found.1 in
-      subst (λ (o : Hold). Among x (option_to_list o.running)) (sym own.2) found.2
+      let own = among-map (hold_of courses (opening_moment o)) found.0 (active m.events) found.1 in
+      subst (λ (y : Hold). Among x (option_to_list y.running)) (sym own.2) found.2
 
   no_step_runs : (x : Entry) → Among x (running_steps after) → ⊥
   no_step_runs x is = nothing_runs x (among-filter (λ (e : Entry). not e.undo) x (all_running after) is).0
 
   was_reserved : (x : Entry) → Among x (all_reserved after) → Among x (all_reserved before)
   was_reserved x is =
-      let found = among-flat_map (λ (o : Hold). o.reserved) x after.holds is in
-      let own = among-map (hold_of courses (opened (stopped courses m))) found.0 (active m.events) found.1 in
-      let its = among-append x (owed courses m.events own.0) [] (subst (λ (o : Hold). Among x o.reserved) (sym own.2) found.2) in
+      let found = among-flat_map (λ (x : Hold). x.reserved) x after.holds is in
+      let own = among-map (hold_of courses (opening_moment o)) found.0 (active m.events) found.1 in
+      let its = among-append x (owed courses m.events own.0) [] (subst (λ (y : Hold). Among x y.reserved) (sym own.2) found.2) in
       by_part own.0 own.1 its
     where
       by_part : (k : ℕ) → Among k (active m.events) → Among x (owed courses m.events k) ⊎ Among x [] → Among x (all_reserved before)
       by_part k goes (inl owes) =
-          in_flat_map (λ (o : Hold). o.reserved) (hold_of courses m k) x before.holds (in_map (hold_of courses m) k (active m.events) goes)
+          in_flat_map (λ (x : Hold). x.reserved) (hold_of courses m k) x before.holds (in_map (hold_of courses m) k (active m.events) goes)
           (among-left x (owed courses m.events k) (owed_soon courses m.events (running_of m k)) owes)
       by_part k goes (inr none) = absurd none
 
   was_pending : (x : Entry) → Among x (all_pending after) → Among x (all_pending before)
   was_pending x is =
-      let found = among-flat_map (λ (o : Hold). o.pending) x after.holds is in
-      let own = among-map (hold_of courses (opened (stopped courses m))) found.0 (active m.events) found.1 in
-      in_flat_map (λ (o : Hold). o.pending) (hold_of courses m own.0) x before.holds (in_map (hold_of courses m) own.0 (active m.events) own.1)
-      (subst (Among x) (pending_same courses m own.0) (subst (λ (o : Hold). Among x o.pending) (sym own.2) found.2))
+      let found = among-flat_map (λ (x : Hold). x.pending) x after.holds is in
+      let own = among-map (hold_of courses (opening_moment o)) found.0 (active m.events) found.1 in
+      in_flat_map (λ (x : Hold). x.pending) (hold_of courses m own.0) x before.holds (in_map (hold_of courses m) own.0 (active m.events) own.1)
+      (subst (Among x) (pending_same courses m o left own.0) (subst (λ (y : Hold). Among x y.pending) (sym own.2) found.2))
 
   same_holders : holders after ≡ holders before
-  same_holders = holders-active courses (opened (stopped courses m)) ∙ sym (holders-active courses m)
+  same_holders = holders-active courses (opening_moment o) ∙ sym (holders-active courses m)
 
   same_net : active_net after ≡ active_net before
   same_net = ap (λ is. filter (λ (e : Entry). is_in e.process is) (net m.events)) same_holders
@@ -159,11 +163,16 @@ module _ (table : ConflictRelation) (courses : List Course) (m : Moment) where
     a5 = refl;
   }
 
+  pub block_stays : (i : ℕ) → block_of table courses m i ≡ None → block_of table courses (opening_moment o) i ≡ None
+  block_stays i free =
+      let t = next_of courses m i in
+      let clashes = none-clear (against_task table courses m i t) free in
+      let nothing = nothing-from_clear (against_task table courses m i t) (eq-eqb (length (all_clashes (against_task table courses m i t))) 0 clashes) in
+      let clear = clear-from_nothing (against_work table courses (holdings courses (opening_moment o)) m.events i t.step t.work) (work_apart i t.step t.work nothing) in
+      subst (λ (u : Task). least_block (blocks_of (against_task table courses (opening_moment o) i u)) ≡ None) (sym ((goes-on courses m o left).next i))
+      (clear-none (against_task table courses (opening_moment o) i t) (eqb-true (length (all_clashes (against_task table courses (opening_moment o) i t))) 0 clear))
+
 pub stops_block_nobody : StopsBlockNobody
-stops_block_nobody table courses m i free =
-    let t = next_of courses m i in
-    let clashes = none-clear (against_task table courses m i t) free in
-    let nothing = nothing-from_clear (against_task table courses m i t) (eq-eqb (length (all_clashes (against_task table courses m i t))) 0 clashes) in
-    let clear = clear-from_nothing (against_work table courses (holdings courses (opened (stopped courses m))) m.events i t.step t.work) (work_apart table courses m i t.step t.work nothing) in
-    subst (λ (u : Task). least_block (blocks_of (against_task table courses (opened (stopped courses m)) i u)) ≡ None) (sym ((goes-on courses m).next i))
-    (clear-none (against_task table courses (opened (stopped courses m)) i t) (eqb-true (length (all_clashes (against_task table courses (opened (stopped courses m)) i t))) 0 clear))
+stops_block_nobody table courses m o left i free =
+    subst (λ h. block_of table courses (opening_moment (record { history = h; begun = o.begun; refused = o.refused })) i ≡ None) (sym left.history)
+    (block_stays table courses m o.begun o.refused (record { history = refl; begun = left.begun; refused = λ k. left.refused k }) i free)

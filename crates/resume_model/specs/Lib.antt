@@ -1,6 +1,3 @@
-pub mod Openings
-pub mod Sound
-pub mod Resumed
+pub mod Stopped
 pub mod StopLaws
 pub mod StopExamples
-pub mod MomentLaws

@@ -1,20 +1,20 @@
 -- Worked examples, computed: what a stop leaves, and how the machine goes on.
-use Rattle.std.specs.Prelude.{◌≡◌, ℕ, true, false, List, [], ◌∷◌, ◌++◌, refl}
+use Rattle.std.specs.Prelude.{◌≡◌, ℕ, true, false, List, [], ◌∷◌, ◌++◌, length, map, refl}
 use Rattle.process_tree.specs.declared.play.Outcome.TheVariants.{Done, Refused}
 use Rattle.schedule_model.specs.Samples.{stock_table, purchase, sale, order, withdrawal, noted_purchase, noted_sale}
 use Rattle.machine_model.specs.declared.kept.Work.TheVariants.{Forward, Undo, End}
-use Rattle.machine_model.specs.declared.began.Cause.{Cause}
-use Rattle.machine_model.specs.declared.began.Cause.TheVariants.{Abort as Aborted, Cascade, Victim as WasVictim}
+use Rattle.schedule_model.specs.declared.marks.Begun.{Begun}
+use Rattle.schedule_model.specs.declared.marks.Cause.{Cause}
+use Rattle.schedule_model.specs.declared.marks.Cause.TheVariants.{Abort as Aborted, Cascade, Victim as WasVictim}
 use Rattle.machine_model.specs.declared.replies.Aborted.TheVariants.{Already}
-use Rattle.machine_model.specs.Moment.{opening_moment}
+use Rattle.machine_model.specs.Moment.{Opening, on_history}
+use Rattle.machine_model.specs.Sound.{is_sound, restarting}
 use Rattle.machine_model.specs.Runs.{now}
-use Rattle.machine_model.specs.Calls.{Call, Reply, abort, aborted, admit, all_complete, complete_all, finish, next, start}
+use Rattle.machine_model.specs.Calls.{Call, Reply, abort, aborted, admit, all_complete, complete_all, finish, next, session_on, start}
 use Rattle.machine_model.specs.AbortExamples.{half_undone, half_undone_opening}
 use Rattle.machine_model.specs.BlockExamples.{shop_calls}
 use Rattle.machine_model.specs.Examples.{done_at, from_nothing, out, turn}
-use Rattle.resume_model.specs.Openings.{Begun, Opening, on_history, opened, restarting}
-use Rattle.resume_model.specs.Resumed.{session_on, stopped}
-use Rattle.resume_model.specs.Sound.{is_sound}
+use Rattle.resume_model.specs.Stopped.{stopped}
 
 -- what a stop leaves of a session that opened on nothing
 abbrev pub left_by : List Call → Opening
@@ -24,19 +24,19 @@ left_by cs = let s = from_nothing cs in stopped s.machine.courses (now stock_tab
 abbrev pub goes_on_with : List Call → List Call → List Reply
 goes_on_with cs more = (session_on stock_table (from_nothing cs).machine.courses (left_by cs) more).replies
 
--- process i has begun for this cause
-abbrev pub for_cause : ℕ → Cause → Begun
-for_cause i cause = record { process = i; cause = cause }
+-- who has begun by what it leaves, and why
+abbrev pub causes_left : List Call → List (ℕ × Cause)
+causes_left cs = map (λ b. (b.process, b.cause)) (left_by cs).begun
 
--- An opening on a history alone is that of a machine that opens on it.
-pub opens_as_before : opened (on_history half_undone_opening) ≡ opening_moment half_undone_opening
-opens_as_before = refl
+-- which steps aren't tried again
+abbrev pub refused_left : List Call → List (ℕ × ℕ)
+refused_left cs = map (λ r. (r.process, r.step)) (left_by cs).refused
 
 -- The purchase was asked to complete before the stop, and took the sale along: so it is behind the stop.
 abbrev pub asked_before : List Call
 asked_before = shop_calls ++ abort 1 ∷ []
 
-pub abort_stays : (left_by asked_before).begun ≡ for_cause 1 Aborted ∷ for_cause 2 (Cascade 1) ∷ []
+pub abort_stays : causes_left asked_before ≡ (1, Aborted) ∷ (2, Cascade 1) ∷ []
 abort_stays = refl
 
 pub abort_is_sound : is_sound stock_table (purchase ∷ sale ∷ []) (left_by asked_before) ≡ true
@@ -50,7 +50,7 @@ abort_goes_on = refl
 abbrev pub refused_before_stop : List Call
 refused_before_stop = start order ∷ admit 1 ∷ finish 1 Done ∷ admit 1 ∷ finish 2 Refused ∷ []
 
-pub refusal_stays : (left_by refused_before_stop).refused ≡ record { process = 1; step = 1 } ∷ []
+pub refusal_stays : refused_left refused_before_stop ≡ (1, 1) ∷ []
 refusal_stays = refl
 
 pub not_tried_again : goes_on_with refused_before_stop (admit 1 ∷ []) ≡ out 1 1 Forward 3 ∷ []
@@ -78,7 +78,7 @@ abbrev pub refused_twice : List Call
 refused_twice = start order ∷ admit 1 ∷ finish 1 Done ∷ admit 1 ∷ finish 2 Refused ∷ admit 1 ∷ finish 3 Refused ∷ admit 1
     ∷ finish 4 Refused ∷ admit 1 ∷ finish 5 Refused ∷ []
 
-pub tried_anew : ((left_by refused_twice).refused ≡ record { process = 1; step = 1 } ∷ record { process = 1; step = 3 } ∷ [])
+pub tried_anew : (refused_left refused_twice ≡ (1, 1) ∷ (1, 3) ∷ [])
     × (goes_on_with refused_twice (admit 1 ∷ []) ≡ out 1 1 Forward 4 ∷ [])
 tried_anew = (refl, refl)
 
@@ -88,7 +88,7 @@ abbrev pub drags_by_refusal : List Call
 drags_by_refusal = start order ∷ start withdrawal ∷ admit 1 ∷ finish 1 Done ∷ admit 1 ∷ finish 2 Done ∷ admit 2 ∷ finish 3 Done
     ∷ admit 1 ∷ finish 4 Refused ∷ []
 
-pub refusal_drags : (left_by drags_by_refusal).begun ≡ for_cause 2 (Cascade 1) ∷ []
+pub refusal_drags : causes_left drags_by_refusal ≡ (2, Cascade 1) ∷ []
 refusal_drags = refl
 
 pub refusal_is_sound : is_sound stock_table (order ∷ withdrawal ∷ []) (left_by drags_by_refusal) ≡ true
@@ -105,7 +105,7 @@ abbrev pub stuck_before : List Call
 stuck_before =
     start noted_purchase ∷ start noted_sale ∷ admit 1 ∷ finish 1 Done ∷ admit 2 ∷ finish 2 Done ∷ next ∷ []
 
-pub victim_stays : (left_by stuck_before).begun ≡ for_cause 2 WasVictim ∷ []
+pub victim_stays : causes_left stuck_before ≡ (2, WasVictim) ∷ []
 victim_stays = refl
 
 pub victim_is_sound : is_sound stock_table (noted_purchase ∷ noted_sale ∷ []) (left_by stuck_before) ≡ true
@@ -113,6 +113,10 @@ victim_is_sound = refl
 
 pub victim_goes_on : goes_on_with stuck_before (next ∷ finish 1 Done ∷ next ∷ []) ≡ turn 1 2 Undo 0 ∷ done_at 5 ∷ turn 2 1 Forward 1 ∷ []
 victim_goes_on = refl
+
+-- process i has begun for this cause, in the midst of the undo
+abbrev pub for_cause : ℕ → Cause → Begun
+for_cause i cause = record { process = i; cause = cause; at = length half_undone_opening }
 
 -- The purchase is in the midst of an undo, and the withdrawal has built on what it undoes. Opened on the history alone it waits for
 -- one that need not go back; so it does where only one member of the cascade is known. With both it is sound.

@@ -7,7 +7,7 @@ use Rattle.process_tree.specs.Blocks.{numbers_from}
 use Rattle.process_text.specs.Canonical.{line_of}
 use Rattle.schedule_model.specs.Histories.{is_active}
 use Rattle.commute_table.specs.declared.catalog.Catalog.{Catalog}
-use Rattle.machine_model.specs.declared.began.Cause.{Cause}
+use Rattle.schedule_model.specs.declared.marks.Cause.{Cause}
 use Rattle.machine_model.specs.State.{is_exhausted, next_of}
 use Rattle.process_core.specs.Cores.{CoreState, began_in, courses_in, history_of, moment_of}
 use Rattle.engine_steps.specs.Engines.{full_history}

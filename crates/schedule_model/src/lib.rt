@@ -1,6 +1,7 @@
 //! Histories of processes and what they mean.
 //!
-//! A history is a list of events with a plan for each process (`Event`, `History`). `specs/Histories` says which entries
+//! A history is a list of events with a plan for each process, and with the processes that have begun to complete and the steps
+//! that aren't tried again (`Event`, `History`, `Begun`, `RefusedStep`). `specs/Histories` says which entries
 //! of it stand, and everything else is said over that: recovery and completion (`Recovery`, `Completion`), own order
 //! (`OwnOrder`), what stands against an event and which histories are legal (`Blocking`, `Legal`), reduction and the
 //! printed trace (`Reduction`, `PrintedTrace`). The layers above cite these definitions, and the laws of `specs/Laws` that
@@ -11,6 +12,7 @@ mod event;
 mod history;
 mod laws;
 mod limits;
+mod marks;
 mod preallocated;
 mod trace_step;
 
@@ -24,5 +26,6 @@ pub use laws::{
     own_order_is_completed, reducible_histories_reduce, standing_facts_hold, the_shop_is_planned,
 };
 pub use limits::{MOST_ACTIVE, MOST_ENTRIES, MOST_EVENTS, MOST_PROCESSES};
+pub use marks::{Beginnings, Begun, Cause, Refusals, RefusedStep};
 pub use preallocated::Preallocated;
 pub use trace_step::TraceStep;

@@ -98,7 +98,7 @@ none_out es (p ∷ ps) each none = absurd (false≢true (ap (is_in p.process) (s
 
 -- where no process is active, no piece is out
 idle_ended : (c : CoreState) → IsRunning c → active (history_of c) ≡ [] → (moment_of c).out ≡ []
-idle_ended c is none = none_out (history_of c) (moment_of c).out (run-own_order (relation c) c.plans is.session.good (machine_of c) refl is.session.legal is.session.run).active none
+idle_ended c is none = none_out (history_of c) (moment_of c).out (run-own_order (relation c) c.plans is.session.good (machine_of c) refl is.session.legal is.session.marks is.session.run).active none
 
 module _ (table : ConflictRelation) (courses : List Course) (m : Moment) (served : ℕ) (none : active m.events ≡ []) where
   no_victims : all_victims table courses m ≡ []

@@ -45,7 +45,7 @@ no_victim table courses m i none is =
 pub who_shares_nothing_is_left_alone : WhoSharesNothingIsLeftAlone
 who_shares_nothing_is_left_alone table plans s i session goes alone =
     let m = now table s in
-    let own = run-own_order table plans session.good s session.courses session.legal session.run in
+    let own = run-own_order table plans session.good s session.courses session.legal session.marks session.run in
     let its = ap (λ xs. shares_nothing table xs m.events i) (sym session.courses) ∙ alone in
     let clear = clear-from_nothing (against_work table (courses_of plans) (open_only (holdings (courses_of plans) m)) m.events i (next_of (courses_of plans) m i).step (next_of (courses_of plans) m i).work)
     (next_clear table session.symmetric plans session.good m own i goes its) in

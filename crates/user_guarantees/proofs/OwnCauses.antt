@@ -12,8 +12,8 @@ use Rattle.schedule_model.proofs.Conflicts.{same_either_way}
 use Rattle.schedule_model.proofs.Members.{Among, among-filter}
 use Rattle.machine_model.specs.declared.kept.Kept.{Kept}
 use Rattle.machine_model.specs.declared.kept.Kept.TheVariants.{Start, Hand, Effect, Refuse, Abort, Victim, Restart}
-use Rattle.machine_model.specs.declared.began.Cause.{Cause}
-use Rattle.machine_model.specs.declared.began.Cause.TheVariants.{Refused, Abort as WasAborted, Victim as WasVictim}
+use Rattle.schedule_model.specs.declared.marks.Cause.{Cause}
+use Rattle.schedule_model.specs.declared.marks.Cause.TheVariants.{Refused, Abort as WasAborted, Victim as WasVictim}
 use Rattle.machine_model.specs.CauseLaws.{GoesBackBy, HasCause, IsDragged, IsRefusedBy, after_refusal}
 use Rattle.machine_model.specs.Moment.{Moment, Piece, beginning_of, begins, begins_now, has_begun, noted}
 use Rattle.machine_model.specs.Pieces.{piece_of, runs}
@@ -107,7 +107,7 @@ module _ (table : ConflictRelation) (symmetric : IsSymmetric table) (plans : Lis
 pub who_shares_nothing_goes_back_of_itself : WhoSharesNothingGoesBackOfItself
 who_shares_nothing_goes_back_of_itself table plans s k i b session may goes alone never begun =
     let m = now table s in
-    let own = run-own_order table plans session.good s session.courses session.legal session.run in
+    let own = run-own_order table plans session.good s session.courses session.legal session.marks session.run in
     let left = subst (λ xs. victim_of table xs m ≡ Some i → ⊥) session.courses (who_shares_nothing_is_left_alone table plans s i session goes alone).no_victim in
     own_cause table session.symmetric plans session.good m own i goes (ap (λ xs. shares_nothing table xs m.events i) (sym session.courses) ∙ alone) left k b.began.cause
     (ap (λ xs. may_be_kept table xs m k) (sym session.courses) ∙ may)

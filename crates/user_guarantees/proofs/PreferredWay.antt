@@ -7,6 +7,7 @@ use Rattle.std.proofs.lemmas.List.Folds.{list_any-append}
 use Rattle.process_tree.specs.Shape.{first_of}
 use Rattle.process_tree.specs.declared.plan.Plan.{Plan}
 use Rattle.schedule_model.specs.declared.event.Event.{Event}
+use Rattle.schedule_model.specs.declared.marks.RefusedStep.{RefusedStep}
 use Rattle.schedule_model.specs.Course.{Course, courses_of, shape}
 use Rattle.schedule_model.specs.Conflict.{ConflictRelation, no_conflict}
 use Rattle.schedule_model.specs.Histories.{is_active, is_in, net_steps, starts}
@@ -16,7 +17,7 @@ use Rattle.schedule_model.proofs.Members.{Among, among-filter, among-left, filte
 use Rattle.machine_model.specs.declared.kept.Kept.{Kept}
 use Rattle.machine_model.specs.declared.kept.Kept.TheVariants.{Start, Hand, Effect, Refuse, Abort, Victim, Restart}
 use Rattle.machine_model.specs.declared.kept.Work.TheVariants.{Undo}
-use Rattle.machine_model.specs.Moment.{Moment, Piece, RefusedStep, has_begun, opening_moment}
+use Rattle.machine_model.specs.Moment.{Moment, Piece, has_begun, opening_moment}
 use Rattle.machine_model.specs.Pieces.{hands, is_refusal, piece_of, refused_pieces}
 use Rattle.machine_model.specs.Progress.{is_only_try, same_work, step_or_end}
 use Rattle.machine_model.specs.State.{refused_before, refused_steps}
@@ -118,12 +119,12 @@ module _ (table : ConflictRelation) (plans : List Plan) (good : AreGood plans) (
         by_event m k well may before unrefused (well.on before unrefused);
   }
 
-  pub session-well : (s : Machine) (session : IsSession table plans s) → is_in i (starts s.opening) ≡ false → WentWell (now table s)
+  pub session-well : (s : Machine) (session : IsSession table plans s) → is_in i (starts s.opening.history) ≡ false → WentWell (now table s)
   session-well s session new =
-      let opening = run-own_order table plans good (record { opening = s.opening; courses = s.courses; kept = []; served = 0 }) session.courses session.legal refl in
+      let opening = run-own_order table plans good (record { opening = s.opening; courses = s.courses; kept = []; served = 0 }) session.courses session.legal session.marks refl in
       subst (λ xs. WentWell (advance_all table xs (opening_moment s.opening) s.kept)) (sym session.courses)
       (goes_on-keeps table cs WentWell advance-well (opening_moment s.opening) s.kept (ap (λ xs. goes_on_from table xs (opening_moment s.opening) s.kept) (sym session.courses) ∙ session.run)
-      (record { own = opening; on = λ never none. way-unstarted plans good i w others paths s.opening opening.legal new }))
+      (record { own = opening; on = λ never none. way-unstarted plans good i w others paths s.opening.history opening.legal new }))
 
 begins_with : (v z : List ℕ) → starts_with eqb (v ++ z) v ≡ true
 begins_with [] z = refl
@@ -160,7 +161,7 @@ cause_or_way courses m i false [] never refused way = absurd (way never refused)
 
 pub undos_have_causes : UndosHaveCauses
 undos_have_causes table plans s i session new undone =
-    let legal = (run-own_order table plans session.good s session.courses session.legal session.run).legal in
+    let legal = (run-own_order table plans session.good s session.courses session.legal session.marks session.run).legal in
     let way = has_way s.courses (now table s) (subst (λ cs. IsTrue (is_legal no_conflict cs (history table s))) (sym session.courses) legal) i undone in
     cause_or_way s.courses (now table s) i (has_begun (now table s) i) (refused_steps s.courses (now table s) i) refl refl
     (λ never none. no_undo_on_way s.courses (now table s) i way.0 (preferred_way table plans s i way.0 session new way.1 never none) undone)

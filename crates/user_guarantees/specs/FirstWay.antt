@@ -40,7 +40,7 @@ pub record IsOnItsWay (courses : List Course) (m : Moment) (i : ℕ) (w : List �
 -- to complete, is on its first way, without an undo.
 abbrev pub PreferredWay : Type 0
 PreferredWay = (table : ConflictRelation) (plans : List Plan) (s : Machine) (i : ℕ) (w : List ℕ) → IsSession table plans s
-    → is_in i (starts s.opening) ≡ false → IsFirstWay (shape s.courses i) w
+    → is_in i (starts s.opening.history) ≡ false → IsFirstWay (shape s.courses i) w
     → has_begun (now table s) i ≡ false → refused_steps s.courses (now table s) i ≡ []
     → IsOnItsWay s.courses (now table s) i w
 
@@ -48,6 +48,6 @@ PreferredWay = (table : ConflictRelation) (plans : List Plan) (s : Machine) (i :
 -- begun to complete, or a step of it was refused that has one try.
 abbrev pub UndosHaveCauses : Type 0
 UndosHaveCauses = (table : ConflictRelation) (plans : List Plan) (s : Machine) (i : ℕ) → IsSession table plans s
-    → is_in i (starts s.opening) ≡ false
+    → is_in i (starts s.opening.history) ≡ false
     → IsTrue (has_undo (history table s) i) ⊎ IsTrue (undoes_next s.courses (now table s) i)
     → IsTrue (has_begun (now table s) i) ⊎ ((b : ℕ) × IsTrue (is_in b (refused_steps s.courses (now table s) i)))

@@ -11,8 +11,8 @@ use Rattle.schedule_model.specs.Course.{Course, access_at, course, key_of}
 use Rattle.schedule_model.specs.Conflict.{ConflictRelation}
 use Rattle.schedule_model.specs.Histories.{active, is_active, is_in}
 use Rattle.machine_model.specs.declared.kept.Kept.{Kept}
-use Rattle.machine_model.specs.declared.began.Cause.{Cause}
-use Rattle.machine_model.specs.declared.began.Cause.TheVariants.{Refused, Abort, Cascade, Victim, Restart}
+use Rattle.schedule_model.specs.declared.marks.Cause.{Cause}
+use Rattle.schedule_model.specs.declared.marks.Cause.TheVariants.{Refused, Abort, Cascade, Victim, Restart}
 use Rattle.machine_model.specs.Moment.{Moment, Beginning, beginning_of}
 use Rattle.machine_model.specs.State.{block_of, victim_of}
 use Rattle.machine_model.specs.Advance.{Machine, advance, cascade_of}

@@ -5,7 +5,7 @@ use Rattle.schedule_model.specs.declared.event.Event.TheVariants.{Start}
 use Rattle.schedule_model.specs.Examples.{goods_shop}
 use Rattle.schedule_model.specs.Samples.{did, goods_table}
 use Rattle.machine_model.specs.declared.blocked.Rule.TheVariants.{A3}
-use Rattle.machine_model.specs.Moment.{opening_moment}
+use Rattle.machine_model.specs.Moment.{on_history, opening_moment}
 use Rattle.machine_model.specs.State.{block_of}
 use Rattle.user_guarantees.specs.Independence.{has_own_keys, is_by_key, shares_nothing}
 use Rattle.user_guarantees.specs.TableExamples.{of_goods, of_stock}
@@ -22,14 +22,14 @@ pub other_goods_share_nothing : shares_nothing goods_table (goods_shop 2) (taken
 other_goods_share_nothing = refl
 
 -- so it may be paid
-pub other_goods_are_paid : block_of goods_table (goods_shop 2) (opening_moment (taken 2)) 2 ≡ None
+pub other_goods_are_paid : block_of goods_table (goods_shop 2) (opening_moment (on_history (taken 2))) 2 ≡ None
 other_goods_are_paid = refl
 
 -- of the same goods it hasn't, and waits for the purchase to end
 pub the_same_goods_are_shared : has_own_keys (goods_shop 1) (taken 1) 2 ≡ false
 the_same_goods_are_shared = refl
 
-pub the_same_goods_wait : block_of goods_table (goods_shop 1) (opening_moment (taken 1)) 2
+pub the_same_goods_wait : block_of goods_table (goods_shop 1) (opening_moment (on_history (taken 1))) 2
     ≡ Some (record { on = 1; other = 0; own = 0; rule = A3 })
 the_same_goods_wait = refl
 

@@ -5,8 +5,8 @@ use Rattle.process_tree.specs.Conflicts.{do_conflict}
 use Rattle.process_tree.specs.Shape.{can_be_refused, kind_of}
 use Rattle.schedule_model.specs.Conflict.{ConflictRelation}
 use Rattle.schedule_model.specs.Course.{Course, courses_of, shape}
-use Rattle.machine_model.specs.declared.began.Cause.{Cause}
-use Rattle.machine_model.specs.declared.began.Cause.TheVariants.{Refused, Cascade, Victim as WasVictim}
+use Rattle.schedule_model.specs.declared.marks.Cause.{Cause}
+use Rattle.schedule_model.specs.declared.marks.Cause.TheVariants.{Refused, Cascade, Victim as WasVictim}
 use Rattle.machine_model.specs.declared.kept.Kept.{Kept}
 use Rattle.machine_model.specs.declared.kept.Kept.TheVariants.{Effect, Refuse, Victim}
 use Rattle.machine_model.specs.declared.kept.Work.{Work}

@@ -1,5 +1,5 @@
 use Rattle.std.proofs.Common.{◌≡◌, ◌∙◌, ℕ, ◌+◌, ◌<◌, length, slice_index_or, slice_set, Option, is_some, ap, sym, arith}
-use Rattle.machine_model.specs.declared.began.Cause.{Cause}
+use Rattle.schedule_model.specs.declared.marks.Cause.{Cause}
 use Rattle.hold_tables.specs.Tables.{Tables, is_open}
 use Rattle.core_state.specs.Beginnings.{cause_if, cause_of, seat_with, tables_with}
 use Rattle.core_state.specs.Seats.{SeatState, no_seat}

@@ -1,10 +1,13 @@
--- Sound openings, computed: a legal history within the limits, with beginnings and refusals that belong to it, at which those who
--- go back are closed under cascades.
-use Rattle.std.specs.Prelude.{ℕ, Bool, true, not, ◌&&◌, ◌||◌, List, length, filter, nat_eq, nat_le, Option, Some, None}
+-- Soundness: when a machine may open at a moment, as tests that compute.
+use Rattle.std.specs.Prelude.{ℕ, Bool, true, not, ◌&&◌, ◌||◌, List, [], filter, length, map, nat_eq, nat_le, Option, Some, None}
 use Rattle.std.specs.List.{list_all}
 use Rattle.process_tree.specs.declared.entry.Entry.{Entry}
 use Rattle.process_tree.specs.Recovery.{forward}
 use Rattle.process_tree.specs.Shape.{can_be_refused, first_of, kind_of}
+use Rattle.schedule_model.specs.declared.event.Event.{Event}
+use Rattle.schedule_model.specs.declared.marks.Begun.{Begun}
+use Rattle.schedule_model.specs.declared.marks.Cause.TheVariants.{Restart as Restarted}
+use Rattle.schedule_model.specs.declared.marks.RefusedStep.{RefusedStep}
 use Rattle.schedule_model.specs.Course.{Course, shape}
 use Rattle.schedule_model.specs.Conflict.{ConflictRelation, conflict}
 use Rattle.schedule_model.specs.Histories.{active, is_in, net, starts}
@@ -12,9 +15,8 @@ use Rattle.schedule_model.specs.Holdings.{behind}
 use Rattle.schedule_model.specs.Legal.{is_legal}
 use Rattle.schedule_model.specs.Limits.{is_within_limits}
 use Rattle.machine_model.specs.Progress.{Progress}
-use Rattle.machine_model.specs.Moment.{Moment, RefusedStep}
+use Rattle.machine_model.specs.Moment.{Moment, Opening, opening_moment}
 use Rattle.machine_model.specs.State.{is_pending, pending_of, progress}
-use Rattle.resume_model.specs.Openings.{Begun, Opening, opened}
 
 -- a number is this one or below, if there is one
 abbrev pub is_at_most : ℕ → Option ℕ → Bool
@@ -33,7 +35,11 @@ is_beginning_of o b = is_in b.process (starts o.history) && nat_le (length (filt
 abbrev pub is_refusal_of : List Course → Opening → RefusedStep → Bool
 is_refusal_of courses o r =
     is_in r.process (starts o.history) && can_be_refused (kind_of (shape courses r.process) r.step)
-    && is_ahead (progress courses (opened o) r.process)
+    && is_ahead (progress courses (opening_moment o) r.process)
+
+-- all beginnings and refusals belong to the history
+abbrev pub do_marks_belong : List Course → Opening → Bool
+do_marks_belong courses o = list_all (is_beginning_of o) o.begun && list_all (is_refusal_of courses o) o.refused
 
 -- whatever stands behind x and conflicts with it is pending
 abbrev pub is_closed_behind : ConflictRelation → List Course → Moment → Entry → Bool
@@ -46,6 +52,13 @@ is_closed table courses m = list_all (λ i. list_all (is_closed_behind table cou
 -- a sound opening
 abbrev pub is_sound : ConflictRelation → List Course → Opening → Bool
 is_sound table courses o =
-    is_legal table courses o.history && is_within_limits courses o.history && list_all (is_beginning_of o) o.begun
-    && list_all (is_refusal_of courses o) o.refused
-    && is_closed table courses (opened o)
+    is_legal table courses o.history && is_within_limits courses o.history && do_marks_belong courses o
+    && is_closed table courses (opening_moment o)
+
+-- process i completes for the sake of a restart, after so many events
+abbrev pub restarted : ℕ → ℕ → Begun
+restarted at i = record { process = i; cause = Restarted; at = at }
+
+-- the opening at which all that are active complete
+abbrev pub restarting : List Event → Opening
+restarting h = record { history = h; begun = map (restarted (length h)) (active h); refused = [] }
