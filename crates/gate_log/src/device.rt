@@ -33,6 +33,7 @@ pub fn whole_file<R: Rack>(alloc: Global, rack: &mut R, file: u8) -> Result<Vec<
     ensures rack { LeavesRack R.Rack rack.old rack.new (IsErrOf result LogError.DiskFault) }
     ensures quiet { OnOk result (R.faults rack.new ≡ R.faults rack.old) }
     ensures refused { IfErr result (λ e. (e ≡ LogError.DiskFault) ⊎ (e ≡ LogError.NoMemory)) }
+    ensures memory { IfErr result (λ e. e ≡ LogError.NoMemory → R.faults rack.new ≡ R.faults rack.old) }
 {
     let mut bytes = Vec::new(alloc);
     let mut count = 0;

@@ -82,6 +82,8 @@ impl Log {
         ensures all { Told (R.disk rack.old) → AllAsBefore (R.disk rack.old) (R.disk rack.new) }
         ensures rack { LeavesRack R.Rack rack.old rack.new (IsErrOf result LogError.DiskFault) }
         ensures quiet { OnOk result (R.faults rack.new ≡ R.faults rack.old) }
+        // No failed call of the rack is told as want of memory.
+        ensures memory { IfErr result (λ e. e ≡ NoMemory → R.faults rack.new ≡ R.faults rack.old) }
     {
         let staged = Staged::new(alloc)?;
         rack.sync()?;

@@ -27,6 +27,7 @@ fn first_used<R: Rack>(rack: &mut R) -> Result<Option<u8>, Failed>
     ensures found { Told (R.disk rack.old) → IfOk result (λ found. found ≡ first_used (R.disk rack.old).files) }
     ensures all { Told (R.disk rack.old) → AllAsBefore (R.disk rack.old) (R.disk rack.new) }
     ensures rack { LeavesRack R.Rack rack.old rack.new (IsErr result) }
+    ensures quiet { OnOk result (R.faults rack.new ≡ R.faults rack.old) }
 {
     let mut file = 0;
     while file < FILES {
@@ -60,6 +61,7 @@ fn made<R: Rack, B: Resource>(
     ensures empty { Told (R.disk rack.old) → OnOk result (first_used (R.disk rack.old).files ≡ None) }
     ensures left { Told (R.disk rack.old) → IfErr result (λ e. AreLeftUnmade e (R.disk rack.old) (R.disk rack.new)) }
     ensures rack { LeavesImages R.Rack rack.old rack.new (IsErrOf result Fault) }
+    ensures memory { IfErr result (λ e. e ≡ NoMemory → R.faults rack.new ≡ R.faults rack.old) }
 {
     calls_make_good_books();
     match first_used(rack) {
@@ -100,6 +102,8 @@ impl<R: Rack + Drop, B: Resource> Files<R, B> {
         ensures back { IfErr result (λ r. AreCleared B.Resource r.parts.resources.items) }
         ensures rack { IfOk result (λ f. LeavesImages R.Rack parts.rack f.rack ⊥) }
         ensures rack_back { IfErr result (λ r. LeavesImages R.Rack parts.rack r.parts.rack (r.why ≡ Fault)) }
+        // No failed call of the rack is told as want of memory.
+        ensures memory { IfErr result (λ r. r.why ≡ NoMemory → R.faults r.parts.rack ≡ R.faults parts.rack) }
     {
         let Parts { rack, resources } = parts;
         let mut rack = rack;

@@ -27,6 +27,8 @@ pub struct CreateRefused<R: Drop, B: Drop = Box<dyn Resource + Send>> {
 pub fn of_store(why: StoreError) -> CreateError
     ensures either { (result ≡ Fault) ⊎ (result ≡ NoMemory) }
     ensures memory { result ≡ Fault → why ≢ StoreError.NoMemory }
+    ensures lacking { result ≡ NoMemory → why ≡ StoreError.NoMemory }
+    ensures told { why ≡ StoreError.NoMemory → result ≡ NoMemory }
 {
     match why {
         StoreError::NoMemory => CreateError::NoMemory,
@@ -38,6 +40,8 @@ pub fn of_store(why: StoreError) -> CreateError
 pub fn of_journal(why: JournalError) -> CreateError
     ensures either { (result ≡ Fault) ⊎ (result ≡ NoMemory) }
     ensures memory { result ≡ Fault → why ≢ JournalError.NoMemory }
+    ensures lacking { result ≡ NoMemory → why ≡ JournalError.NoMemory }
+    ensures told { why ≡ JournalError.NoMemory → result ≡ NoMemory }
 {
     match why {
         JournalError::NoMemory => CreateError::NoMemory,

@@ -37,6 +37,7 @@ pub fn make_stores<R: Rack, B: Resource>(
         → StandsFor log bodies (R.disk rack.old) → StandsFor log bodies (R.disk rack.new) }
     ensures rack { LeavesImages R.Rack rack.old rack.new (IsErrOf result Fault) }
     ensures refused { IfErr result (λ e. e ≢ NoMemory → (e ≡ Fault) × Rose (R.faults rack.old) (R.faults rack.new)) }
+    ensures memory { IfErr result (λ e. e ≡ NoMemory → R.faults rack.new ≡ R.faults rack.old) }
 {
     let mut stores = stores;
     while let Some(resource) = boxes.pop() {

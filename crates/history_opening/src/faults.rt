@@ -1,6 +1,7 @@
 // Why files were not opened.
 ghost use Rattle.std.specs.Prelude.{◌≡◌};
 ghost use Rattle.history_opening.specs.Opening.{of_store_error, of_journal_error};
+ghost use Rattle.history_opening.specs.declared.faults.OpenError.TheVariants.{NoMemory};
 
 use history_files::Parts;
 use process_journal::JournalError;
@@ -42,7 +43,9 @@ pub struct OpenRefused<R: Drop, B: Drop = Box<dyn Resource + Send>> {
 
 /// Why a store was not opened.
 pub fn of_opened(file: u8, why: StoreError) -> OpenError
-    ensures { result ≡ of_store_error file why }
+    ensures is { result ≡ of_store_error file why }
+    ensures lacking { result ≡ NoMemory → why ≡ StoreError.NoMemory }
+    ensures told { why ≡ StoreError.NoMemory → result ≡ NoMemory }
 {
     match why {
         StoreError::DiskFault => OpenError::DiskFault,
@@ -55,7 +58,9 @@ pub fn of_opened(file: u8, why: StoreError) -> OpenError
 
 /// Why a journal was not opened.
 pub fn of_opened_journal(why: JournalError) -> OpenError
-    ensures { result ≡ of_journal_error why }
+    ensures is { result ≡ of_journal_error why }
+    ensures lacking { result ≡ NoMemory → why ≡ JournalError.NoMemory }
+    ensures told { why ≡ JournalError.NoMemory → result ≡ NoMemory }
 {
     match why {
         JournalError::DiskFault => OpenError::DiskFault,

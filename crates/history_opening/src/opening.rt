@@ -1,5 +1,5 @@
 // Files that are opened for the history of their journal.
-ghost use Rattle.std.specs.Prelude.{◌≡◌, ◌≤◌, length, IfOk, IfErr, IsErrOf, vec_capacity};
+ghost use Rattle.std.specs.Prelude.{◌≡◌, ◌≤◌, length, IfOk, IfErr, OnOk, IsErrOf, vec_capacity};
 ghost use Rattle.process_disk.specs.Disk.{Told};
 ghost use Rattle.process_disk.specs.Racks.{LeavesRack, LeavesImages};
 ghost use Rattle.process_disk.specs.Images.{AllAsBefore};
@@ -10,7 +10,7 @@ ghost use Rattle.history_files.specs.Standing.{ComeTo, EachFits, Stand};
 ghost use Rattle.history_opening.specs.Images.{FoundSound, LeftByRefusal};
 ghost use Rattle.history_opening.specs.Opening.{IsDueToOpening};
 ghost use Rattle.history_opening.specs.Reading.{AreOpenFiles, AreOpenStores};
-ghost use Rattle.history_opening.specs.declared.faults.OpenError.TheVariants.{DiskFault as Fault};
+ghost use Rattle.history_opening.specs.declared.faults.OpenError.TheVariants.{DiskFault as Fault, NoMemory};
 
 use crate::comparing::books_difference;
 use crate::reading::{ReadFiles, read_files};
@@ -42,6 +42,8 @@ fn read_sound<R: Rack, B: Resource>(
     ensures all { Told (R.disk rack.old) → AllAsBefore (R.disk rack.old) (R.disk rack.new) }
     ensures due { Told (R.disk rack.old) → IfErr result (IsDueToOpening (R.disk rack.old).files) }
     ensures rack { LeavesRack R.Rack rack.old rack.new (IsErrOf result Fault) }
+    ensures quiet { OnOk result (R.faults rack.new ≡ R.faults rack.old) }
+    ensures memory { IfErr result (λ e. e ≡ NoMemory → R.faults rack.new ≡ R.faults rack.old) }
 {
     let read = match read_files(alloc, rack, boxes) {
         Ok(read) => read,
@@ -88,6 +90,8 @@ pub fn open_files<R: Rack + Drop, B: Resource>(
     ensures back { IfErr result (λ r. AreCleared B.Resource r.parts.resources.items) }
     ensures rack { IfOk result (λ o. LeavesImages R.Rack parts.rack o.0.rack ⊥) }
     ensures rack_back { IfErr result (λ r. LeavesImages R.Rack parts.rack r.parts.rack (r.why ≡ Fault)) }
+    // No failed call of the rack is told as want of memory.
+    ensures memory { IfErr result (λ r. r.why ≡ NoMemory → R.faults r.parts.rack ≡ R.faults parts.rack) }
 {
     let Parts { rack, resources } = parts;
     let mut rack = rack;

@@ -1,5 +1,5 @@
 // The stores of files as they are read.
-ghost use Rattle.std.specs.Prelude.{◌≡◌, ◌⊎◌, length, ◌≤◌, ◌+◌, [], Ok, IfOk, IfErr, IsErrOf, vec_capacity};
+ghost use Rattle.std.specs.Prelude.{◌≡◌, ◌⊎◌, length, ◌≤◌, ◌+◌, [], Ok, IfOk, IfErr, OnOk, IsErrOf, vec_capacity};
 ghost use Rattle.process_disk.specs.Disk.{Told};
 ghost use Rattle.process_disk.specs.Racks.{LeavesRack};
 ghost use Rattle.process_disk.specs.Images.{AllAsBefore};
@@ -41,6 +41,8 @@ pub fn open_stores<R: Rack, B: Resource>(
     ensures all { Told (R.disk rack.old) → AllAsBefore (R.disk rack.old) (R.disk rack.new) }
     ensures due { Told (R.disk rack.old) → IfErr result (IsDueToStore (R.disk rack.old).files) }
     ensures rack { LeavesRack R.Rack rack.old rack.new (IsErrOf result Fault) }
+    ensures quiet { OnOk result (R.faults rack.new ≡ R.faults rack.old) }
+    ensures memory { IfErr result (λ e. e ≡ NoMemory → R.faults rack.new ≡ R.faults rack.old) }
 {
     let mut stores = stores;
     while let Some(resource) = boxes.pop() {
@@ -86,6 +88,8 @@ pub fn read_files<R: Rack, B: Resource>(
     ensures all { Told (R.disk rack.old) → AllAsBefore (R.disk rack.old) (R.disk rack.new) }
     ensures due { Told (R.disk rack.old) → IfErr result (λ e. (e ≡ NoMemory) ⊎ IsDueToReading (R.disk rack.old).files e) }
     ensures rack { LeavesRack R.Rack rack.old rack.new (IsErrOf result Fault) }
+    ensures quiet { OnOk result (R.faults rack.new ≡ R.faults rack.old) }
+    ensures memory { IfErr result (λ e. e ≡ NoMemory → R.faults rack.new ≡ R.faults rack.old) }
 {
     let Ok(stores) = Vec::with_capacity(alloc, usize::from(SUBSYSTEMS)) else {
         return Err(OpenError::NoMemory);

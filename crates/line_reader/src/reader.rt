@@ -1,6 +1,6 @@
 // Lines of a source.
 ghost use Rattle.std.specs.Prelude.{◌≡◌, ◌≢◌, ◌≤◌, ◌+◌, ◌-◌, ℕ, List, [], ◌++◌, length, take, false, Option, Some, None, IfOk};
-ghost use Rattle.std.specs.Prelude.{IfErr, OnErr, OnOk, IsErrOf};
+ghost use Rattle.std.specs.Prelude.{IfErr, OnErr, OnOk, IsErrOf, Err};
 ghost use Rattle.process_flow.specs.Causes.{Rose};
 ghost use Rattle.std.specs.Io.KnownBytes.{Consumes, IsAtEnd};
 ghost use Rattle.trace_verify.specs.Lines.{cut};
@@ -109,6 +109,8 @@ impl LineReader {
         ensures fault { IsErrOf result TakeError.ReadFault → Rose (S.faults source.old) (S.faults source.new) }
         ensures later { S.faults source.old ≤ S.faults source.new }
         ensures quiet { OnOk result (S.faults source.new ≡ S.faults source.old) }
+        // No failed call is told as want of memory.
+        ensures lacking { result ≡ Err TakeError.NoMemory → S.faults source.new ≡ S.faults source.old }
     {
         let mut chunk = [0; CHUNK];
         let count = match source.take(&mut chunk) {
@@ -148,6 +150,8 @@ impl LineReader {
         ensures later { S.faults source.old ≤ S.faults source.new }
         // No failed call is passed over.
         ensures quiet { OnOk result (S.faults source.new ≡ S.faults source.old) }
+        // No failed call is told as want of memory.
+        ensures lacking { result ≡ Err TakeError.NoMemory → S.faults source.new ≡ S.faults source.old }
     {
         self.invariant_holds();
         let mut line = Vec::new(alloc);

@@ -105,6 +105,8 @@ impl Journal {
         ensures all { Told (R.disk rack.old) → AllAsBefore (R.disk rack.old) (R.disk rack.new) }
         ensures rack { LeavesRack R.Rack rack.old rack.new (IsErrOf result JournalError.DiskFault) }
         ensures quiet { OnOk result (R.faults rack.new ≡ R.faults rack.old) }
+        // No failed call of the rack is told as want of memory.
+        ensures memory { IfErr result (λ e. e ≡ NoMemory → R.faults rack.new ≡ R.faults rack.old) }
     {
         let (log, bodies) = Log::open(alloc, rack, 0)?;
         let (catalog, history) = read_bodies(alloc, &bodies)?;

@@ -97,6 +97,9 @@ impl<B: Resource> Store<B> {
             (λ r. r.why ≢ StoreError.NoMemory → (r.why ≡ StoreError.DiskFault) × Rose (R.faults rack.old) (R.faults rack.new)) }
         ensures others { Told (R.disk rack.old) → OthersAsBefore file (R.disk rack.old) (R.disk rack.new) }
         ensures rack { LeavesRack R.Rack rack.old rack.new (IsFault result) }
+        ensures quiet { OnOk result (R.faults rack.new ≡ R.faults rack.old) }
+        // No failed call of the rack is told as want of memory.
+        ensures memory { IfErr result (λ r. r.why ≡ StoreError.NoMemory → R.faults rack.new ≡ R.faults rack.old) }
     {
         let account = Account::new(alloc, resource);
         match Log::create(alloc, rack, file) {
@@ -129,6 +132,9 @@ impl<B: Resource> Store<B> {
         ensures cleared { IfErr result (λ r. ((B.meaning r.resource).items ≡ []) × (B.sort r.resource ≡ B.sort resource)) }
         ensures all { Told (R.disk rack.old) → AllAsBefore (R.disk rack.old) (R.disk rack.new) }
         ensures rack { LeavesRack R.Rack rack.old rack.new (IsFault result) }
+        ensures quiet { OnOk result (R.faults rack.new ≡ R.faults rack.old) }
+        // No failed call of the rack is told as want of memory.
+        ensures memory { IfErr result (λ r. r.why ≡ StoreError.NoMemory → R.faults rack.new ≡ R.faults rack.old) }
     {
         let account = Account::new(alloc, resource);
         match Log::open(alloc, rack, file) {

@@ -37,4 +37,5 @@ loop-file-preserved g c =
           (run_look (g.R.Rack.disk old.rack) (g.R.Rack.disk c.len.new.self) honest honest_new (c.in_ok-len.ensures.looks.looks told_old));
       tells = c.in_ok-len.ensures.looks.tells ∙ old.invariant.tells;
       later = omega (arith, old.invariant.later, c.in_ok-len.ensures.faults.cause.later);
+      quiet = c.in_ok-len.ensures.faults.quiet ∙ old.invariant.quiet;
     }

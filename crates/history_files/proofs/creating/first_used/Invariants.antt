@@ -11,6 +11,7 @@ invariant-loop-file g l = record {
   all : Told (g.R.Rack.disk l.fn.rack) → AllAsBefore (g.R.Rack.disk l.fn.rack) (g.R.Rack.disk l.rack);
   tells : (g.R.Rack.disk l.rack).tells ≡ (g.R.Rack.disk l.fn.rack).tells;
   later : g.R.Rack.faults l.fn.rack ≤ g.R.Rack.faults l.rack;
+  quiet : g.R.Rack.faults l.rack ≡ g.R.Rack.faults l.fn.rack;
 }
 
 abbrev pub decreases-loop-file : goal.decreases-loop-file

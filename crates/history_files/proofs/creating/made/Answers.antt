@@ -104,3 +104,11 @@ returns-in-Ok-make_stores-clause-rack g c = record {
 pub returns-in-Err-make_stores-clause-left : goal.returns-in-Err-make_stores-clause-left
 returns-in-Err-make_stores-clause-left g c told =
     unused_left c.in-Err-make_stores.why (g.R.Rack.disk c.args.rack.now) (g.R.Rack.disk c.make_stores.new.rack) c.in-Err-make_stores.ensures.refused (sym (c.in-Ok-None.ensures.found told) ∙ c.in-Ok-None.field-0-is)
+
+pub returns-in-Err-create-clause-memory : goal.returns-in-Err-create-clause-memory
+returns-in-Err-create-clause-memory g c memory =
+    ap g.R.Rack.faults (c.in-Err-create.ensures.err.unwritten (c.of_journal.ensures.lacking memory)) ∙ c.in-Ok-None.ensures.quiet
+
+pub returns-in-Err-make_stores-clause-memory : goal.returns-in-Err-make_stores-clause-memory
+returns-in-Err-make_stores-clause-memory g c memory =
+    c.in-Err-make_stores.ensures.memory memory ∙ c.in-Ok-create.ensures.quiet ∙ c.in-Ok-None.ensures.quiet

@@ -33,6 +33,7 @@ loop-resource-preserved g c =
           (subst (λ k. OthersAsBefore k (g.R.Rack.disk old.rack) (g.R.Rack.disk c.create.new.rack)) same (made.others told_old)) (made.stands told_old));
       tells = made.rack.tells ∙ old.invariant.tells;
       later = omega (arith, old.invariant.later, made.rack.later);
+      quiet = made.quiet ∙ old.invariant.quiet;
     }
 
 pub put_back-requires-clause-room : goal.put_back-requires-clause-room
@@ -67,3 +68,6 @@ returns-clause-stores g c =
 
 pub returns-clause-stand : goal.returns-clause-stand
 returns-clause-stand g c told = (c.loop-resource.invariant.told told).stand
+
+pub returns-in-Err-clause-memory : goal.returns-in-Err-clause-memory
+returns-in-Err-clause-memory g c memory = c.in-Err.ensures.memory (c.of_store.ensures.lacking memory) ∙ c.loop-resource.invariant.quiet

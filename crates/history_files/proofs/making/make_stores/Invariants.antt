@@ -16,6 +16,7 @@ invariant-loop-resource g l = record {
   told : Told (g.R.Rack.disk l.fn.rack) → Made (g.R.Rack.disk l.fn.rack) (g.R.Rack.disk l.rack) l.stores.items;
   tells : (g.R.Rack.disk l.rack).tells ≡ (g.R.Rack.disk l.fn.rack).tells;
   later : g.R.Rack.faults l.fn.rack ≤ g.R.Rack.faults l.rack;
+  quiet : g.R.Rack.faults l.rack ≡ g.R.Rack.faults l.fn.rack;
 }
 
 abbrev pub decreases-loop-resource : goal.decreases-loop-resource

@@ -37,6 +37,7 @@ loop-resource-preserved g c =
           (old.invariant.told told).all (sym made.store.1 ∙ kind) same (made.answer told_old)));
       tells = made.rack.tells ∙ old.invariant.tells;
       later = omega (arith, old.invariant.later, made.rack.later);
+      quiet = made.quiet ∙ old.invariant.quiet;
     }
 
 pub put_back-requires-clause-room : goal.put_back-requires-clause-room
@@ -79,7 +80,10 @@ returns-in-Err-clause-due g c told =
       subsystem = length old.stores.items;
       within = omega (arith, count, length-append c.pop.new.self.items (c.in-Some.resource ∷ []));
       why = c.in-Err.refused.why;
-      is = c.of_opened.ensures ∙ ap (λ n. of_store_error n c.in-Err.refused.why) same;
+      is = c.of_opened.ensures.is ∙ ap (λ n. of_store_error n c.in-Err.refused.why) same;
       refused = refused_next (g.R.Rack.disk c.args.rack.now) (g.R.Rack.disk old.rack) (length old.stores.items) (c.len.result + 1) (sort c.in-Some.resource) c.in-Err.refused.why read.all kind same (c.in-Err.ensures.answer (old.invariant.tells ∙ told));
       earlier = read_earlier (g.R.Rack.disk c.args.rack.now) (g.R.Rack.disk old.rack) old.stores.items read;
     }
+
+pub returns-in-Err-clause-memory : goal.returns-in-Err-clause-memory
+returns-in-Err-clause-memory g c memory = c.in-Err.ensures.memory (c.of_opened.ensures.lacking memory) ∙ c.loop-resource.invariant.quiet

@@ -53,3 +53,9 @@ returns-in-Ok-open_stores-clause-rack g c = record {
   later = omega (arith, c.in-Ok-open.ensures.rack.later, c.in-Ok-open_stores.ensures.rack.later);
   fault = λ same. absurd cc;
 }
+
+pub returns-in-Ok-open_stores-clause-quiet : goal.returns-in-Ok-open_stores-clause-quiet
+returns-in-Ok-open_stores-clause-quiet g c = c.in-Ok-open_stores.ensures.quiet ∙ c.in-Ok-open.ensures.quiet
+
+pub returns-in-Err-open_stores-clause-memory : goal.returns-in-Err-open_stores-clause-memory
+returns-in-Err-open_stores-clause-memory g c memory = c.in-Err-open_stores.ensures.memory memory ∙ c.in-Ok-open.ensures.quiet
