@@ -12,6 +12,7 @@ use Rattle.instance_state.specs.Instances.{InstanceState}
 use Rattle.core_state.specs.Beginnings.{aborted_by, aborted_of}
 use Rattle.core_state.specs.Cores.{CoreState, IsCore, courses_in, moment_of}
 use Rattle.core_state.specs.Seats.{seat_of}
+use Rattle.core_state.proofs.BegunBefore.{same_some}
 use Rattle.core_state.proofs.SeatFacts.{has_plan}
 
 module _ (c : CoreState) (core : IsCore c) (i : ℕ) where
@@ -38,10 +39,6 @@ module _ (c : CoreState) (core : IsCore c) (i : ℕ) where
 
       began : Option Began
       began = option_map (λ (b : Beginning). b.began) (beginning_of m i)
-
-      same_some : (o : Option Beginning) → is_some (option_map (λ (b : Beginning). b.began) o) ≡ is_some o
-      same_some None = refl
-      same_some (Some b) = refl
 
       by_tries : (t : Bool) → (if t then Exhausted else abort_by_begun (has_begun m i)) ≡ abort_by_tries m i t
       by_tries true = refl

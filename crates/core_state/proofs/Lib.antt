@@ -2,6 +2,7 @@ pub mod ProcessActs
 pub mod StartedProcesses
 pub mod SeatFacts
 pub mod BegunStarted
+pub mod BegunBefore
 pub mod IdleStops
 pub mod TablesHoldings
 pub mod LastSteps

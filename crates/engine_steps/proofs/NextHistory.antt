@@ -48,7 +48,7 @@ module _ (core : CoreState) (is : IsCore core) (p : Piece) (handed : IsHandedBy 
 
   kept_history : full_history (with_kept_event core (Effect p.number)) ≡ history_with core p
   kept_history =
-      ap (λ es. record { plans = core.plans; events = es }) (ap (λ (m : Moment). m.events) (moment_kept core is (Effect p.number) refl runs_now) ∙ events_are core is p handed runs_now)
+      ap (λ es. record { plans = core.plans; events = es; begun = core.opening.begun; refused = core.opening.refused }) (ap (λ (m : Moment). m.events) (moment_kept core is (Effect p.number) refl runs_now) ∙ events_are core is p handed runs_now)
 
   -- after its effect a core has that history
   pub history_is : full_history (after_call core (finish p.number Done)) ≡ history_with core p

@@ -12,7 +12,8 @@ use Rattle.schedule_model.specs.Limits.{is_within_limits}
 use Rattle.schedule_model.specs.declared.event.Event.{Event}
 use Rattle.schedule_model.specs.declared.history.History.{History}
 use Rattle.commute_table.specs.declared.catalog.Catalog.{Catalog}
-use Rattle.process_core.specs.Cores.{CoreState, IsCore, history_of, opened_on}
+use Rattle.machine_model.specs.Moment.{on_history}
+use Rattle.process_core.specs.Cores.{CoreState, IsCore, history_of, opened_at, opened_on, opening_of}
 use Rattle.process_journal.specs.Bodies.{event_bodies, journal_bodies, plans_behind}
 use Rattle.process_journal.specs.Journals.{IsHistoryUnder}
 use Rattle.process_journal.specs.Plans.{IsPlanUnder}
@@ -36,28 +37,38 @@ core_of_history c h under =
         one_each = under.one_each;
         legal = allowed.0;
         within = allowed.1;
+        marks = refl;
         run = refl;
       };
       known = λ p among. subst (λ n. Each (λ op. op < n) p.ops) (sym under.catalog.of_all) (each_contains (IsPlanUnder c) h.plans p under.plans among).bound.within;
     }
 
+-- which has no marks
+no_marks : (c : Catalog) (h : History) → IsHistoryUnder c h → opening_of h ≡ on_history h.events
+no_marks c h under =
+    ap (λ bs. record { history = h.events; begun = bs; refused = h.refused }) under.begun
+    ∙ ap (λ rs. record { history = h.events; begun = []; refused = rs }) under.refused
+
 -- by a table that is the catalog's
-pub core_by_table : (c : Catalog) (h : History) (table : Table) → table ≡ c.conflicts → IsHistoryUnder c h → IsCore (opened_on table h.plans h.events)
-core_by_table c h table same under = subst (λ t. IsCore (opened_on t h.plans h.events)) (sym same) (core_of_history c h under)
+pub core_by_table : (c : Catalog) (h : History) (table : Table) → table ≡ c.conflicts → IsHistoryUnder c h → IsCore (opened_at table h.plans (opening_of h))
+core_by_table c h table same under =
+    subst (λ t. IsCore (opened_at t h.plans (opening_of h))) (sym same)
+    (subst (λ o. IsCore (opened_at c.conflicts h.plans o)) (sym (no_marks c h under)) (core_of_history c h under))
 
 -- there is a body for each event
 bodies_count : (plans : List Plan) (h : List Event) → length (event_bodies plans h) ≡ length h
 bodies_count plans [] = refl
 bodies_count plans (e ∷ h) = ap suc (bodies_count (plans_behind plans e) h)
 
-module _ (c : Catalog) (h : History) (core : CoreState) (is : core ≡ opened_on c.conflicts h.plans h.events) where
+module _ (c : Catalog) (h : History) (core : CoreState) (is : core ≡ opened_at c.conflicts h.plans (opening_of h)) where
   -- its history is that of the files,
   pub history_is : full_history core ≡ h
   history_is = ap full_history is
 
   -- it is opened on it,
-  pub core_is : core ≡ opened_on c.conflicts core.plans (history_of core)
-  core_is = is ∙ sym (ap (λ (x : CoreState). opened_on c.conflicts x.plans (history_of x)) is)
+  pub core_is : IsHistoryUnder c h → core ≡ opened_on c.conflicts core.plans (history_of core)
+  core_is under =
+      is ∙ (ap (opened_at c.conflicts h.plans) (no_marks c h under) ∙ sym (ap (λ (x : CoreState). opened_on c.conflicts x.plans (history_of x)) is))
 
   -- and under the catalog,
   pub opened_under : IsHistoryUnder c h → IsUnder c core

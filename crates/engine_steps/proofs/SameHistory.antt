@@ -56,7 +56,7 @@ module _ (table : ConflictRelation) (courses : List Course) where
 
 -- a call that keeps none leaves the history
 pub same_history : (c : CoreState) (call : Call) → Each IsQuiet (answer_in c call).kept → full_history (after_call c call) ≡ full_history c
-same_history c call quiet = ap (λ es. record { plans = c.plans; events = es })
+same_history c call quiet = ap (λ es. record { plans = c.plans; events = es; begun = c.opening.begun; refused = c.opening.refused })
     (ap (λ (m : Moment). m.events) (advance_all-append (relation c) (courses_in c) (opening_moment c.opening) c.kept (answer_in c call).kept)
     ∙ quiet_events (relation c) (courses_in c) (moment_of c) (answer_in c call).kept quiet)
 

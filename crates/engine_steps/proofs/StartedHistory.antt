@@ -48,7 +48,7 @@ module _ (core : CoreState) (is : IsCore core) (p : Plan) (free : start_refusal 
   events_are = ap (λ (m : Moment). m.events) (moment_after core is p)
 
   pub history_after : full_history (after_start core p) ≡ history_with core p
-  history_after = ap (λ es. record { plans = core.plans ++ p ∷ []; events = es })
+  history_after = ap (λ es. record { plans = core.plans ++ p ∷ []; events = es; begun = core.opening.begun; refused = core.opening.refused })
       (ap (λ ks. history (relation core) (machine_with (courses_of (core.plans ++ p ∷ [])) ks)) kept_is
       ∙ (ap (λ cs. history (relation core) (machine_with cs (Start number ∷ []))) (sym longer)
       ∙ (events_are ∙ ap (λ n. history_of core ++ Started n ∷ []) number_is)))

@@ -22,9 +22,9 @@ pub record EngineState (R B : Type 0) : Type 0 where
   pub files : FilesState R B
   pub phase : Phase
 
--- the history of a core, with the plans of all that started
+-- the history of a core, with the plans of all that started and what was known at its opening of beginnings and refusals
 abbrev pub full_history : CoreState → History
-full_history core = record { plans = core.plans; events = history_of core }
+full_history core = record { plans = core.plans; events = history_of core; begun = core.opening.begun; refused = core.opening.refused }
 
 -- A core runs the processes of this catalog: by its table, and each plan is the one that the catalog binds.
 pub record IsUnder (c : Catalog) (core : CoreState) : Type 0 where

@@ -30,7 +30,8 @@ fn new_core(alloc: Global, catalog: &Catalog) -> Result<(Core, Lists), AllocErro
     let plans = Plans::new(Vec::new(alloc))?;
     let events = Events::new(Vec::new(alloc))?;
     let conflicts = catalog.conflicts.copy(alloc)?;
-    let core = Core::open(alloc, History { plans, events }, conflicts)?;
+    let history = History::unmarked(alloc, plans, events)?;
+    let core = Core::open(alloc, history, conflicts)?;
     Ok((core, group))
 }
 

@@ -2,7 +2,7 @@
 ghost use Rattle.std.specs.Prelude.{◌≡◌, IfOk, IfErr};
 ghost use Rattle.process_disk.specs.Disk.{Told};
 ghost use Rattle.process_disk.specs.Racks.{LeavesImages};
-ghost use Rattle.process_core.specs.Cores.{opened_on};
+ghost use Rattle.process_core.specs.Cores.{opened_at, opening_of};
 ghost use Rattle.process_journal.specs.Journals.{IsHistoryUnder};
 ghost use Rattle.history_files.specs.Boxes.{AreBoxes, AreCleared};
 ghost use Rattle.history_files.specs.Groups.{OwesNothing};
@@ -29,7 +29,7 @@ fn opened_core(
     history: History,
 ) -> Result<(Core, Lists), AllocError>
     requires history { IsHistoryUnder catalog.now history }
-    ensures { IfOk result (λ made. made.0 ≡ opened_on catalog.now.conflicts history.plans history.events) }
+    ensures { IfOk result (λ made. made.0 ≡ opened_at catalog.now.conflicts history.plans (opening_of history)) }
 {
     let group = Lists::new(alloc)?;
     let conflicts = catalog.conflicts.copy(alloc)?;

@@ -94,10 +94,12 @@ impl Core {
         let _ = &self.history;
     }
 
-    /// What happened, and the plans of all that started.
+    /// What happened, the plans of all that started, and what the opening knew of beginnings and refusals.
     pub fn history(&self) -> &History
         ensures events { result.now.events ≡ history_of self.now }
         ensures plans { result.now.plans ≡ self.now.plans }
+        ensures begun { result.now.begun ≡ self.now.opening.begun }
+        ensures refused { result.now.refused ≡ self.now.opening.refused }
     {
         &self.history
     }

@@ -10,7 +10,7 @@ invariant_of-result g c =
     )
 
 pub returns-in-Ok-clause-opened : goal.returns-in-Ok-clause-opened
-returns-in-Ok-clause-opened g c = record { core = core_is c.args.catalog c.args.history c.in-Ok.core c.in-Ok.ensures; phase = refl; owes = c.requires.owes }
+returns-in-Ok-clause-opened g c = record { core = core_is c.args.catalog c.args.history c.in-Ok.core c.in-Ok.ensures c.requires.history; phase = refl; owes = c.requires.owes }
 
 pub returns-in-Ok-clause-on : goal.returns-in-Ok-clause-on
 returns-in-Ok-clause-on g c = record { catalog = refl; history = history_is c.args.catalog c.args.history c.in-Ok.core c.in-Ok.ensures; files = refl }

@@ -1,6 +1,6 @@
-use Rattle.std.proofs.Common.{◌≡◌, ◌∙◌, ◌+◌, ◌-◌, length, slice_set, take, vec_capacity, ap, arith}
+use Rattle.std.proofs.Common.{◌≡◌, ◌∙◌, ◌+◌, ◌-◌, length, slice_set, vec_capacity, ap, arith}
 use Rattle.process_core.specs.Handing.{with_kept}
-use Rattle.core_state.specs.Cores.{CoreState}
+use Rattle.core_state.specs.Cores.{CoreState, opening_in}
 use Rattle.process_core.proofs.BackKept.{root_active, root_drags, root_is_open, root_there}
 use Rattle.process_core.proofs.DragKept.{CanDrag}
 use Rattle.core_state.proofs.FewKept.{kept_few}
@@ -19,7 +19,7 @@ abbrev core_before : After-begin → CoreState
 core_before c = record {
   conflicts = c.self.inside.holds.conflicts;
   plans = c.self.inside.history.plans;
-  opening = take c.self.inside.opening c.self.inside.history.events;
+  opening = opening_in c.self.inside.opening c.self.inside.history.events c.self.inside.history.begun c.self.inside.history.refused;
   kept = c.self.inside.kept.items;
   served = c.self.inside.served;
 }

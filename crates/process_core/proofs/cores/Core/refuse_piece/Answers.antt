@@ -1,8 +1,8 @@
-use Rattle.std.proofs.Common.{◌≡◌, ◌∙◌, ◌+◌, ◌-◌, ◌<◌, true, false, length, slice_set, take, vec_capacity, sym, arith}
+use Rattle.std.proofs.Common.{◌≡◌, ◌∙◌, ◌+◌, ◌-◌, ◌<◌, true, false, length, slice_set, vec_capacity, sym, arith}
 use Rattle.machine_model.specs.declared.kept.Kept.TheVariants.{Refuse}
 use Rattle.machine_model.specs.Moment.{Piece}
 use Rattle.core_state.specs.Beginnings.{drags_along}
-use Rattle.core_state.specs.Cores.{CoreState}
+use Rattle.core_state.specs.Cores.{CoreState, opening_in}
 use Rattle.process_core.proofs.DragKept.{CanDrag}
 use Rattle.core_state.proofs.FewKept.{kept_few}
 use Rattle.process_core.proofs.RefusedCore.{StandsAlone, core_active, core_after, core_alone, core_answer, core_drags, core_open, core_piece, core_room, core_seat}
@@ -25,7 +25,7 @@ abbrev core_before : After-refuse-refusal → CoreState
 core_before c = record {
   conflicts = c.self.inside.holds.conflicts;
   plans = c.self.inside.history.plans;
-  opening = take c.self.inside.opening c.self.inside.history.events;
+  opening = opening_in c.self.inside.opening c.self.inside.history.events c.self.inside.history.begun c.self.inside.history.refused;
   kept = c.self.inside.kept.items;
   served = c.self.inside.served;
 }
