@@ -25,12 +25,16 @@ fn without_last(alloc: Global, h: History) -> Result<History, AllocError>
 {
     let mut plans = h.plans.into_items();
     let mut events = h.events.into_items();
+    let begun = h.begun;
+    let refused = h.refused;
     events.pop();
     let started = started(alloc, &events)?;
     plans.truncate(started.len());
     Ok(History {
         plans: Plans::new(plans)?,
         events: Events::new(events)?,
+        begun,
+        refused,
     })
 }
 

@@ -20,10 +20,12 @@ AreCopies [] (q ∷ qs) = ⊥
 AreCopies (p ∷ ps) [] = ⊥
 AreCopies (p ∷ ps) (q ∷ qs) = AreEqualPlans p q × AreCopies ps qs
 
--- the history that a log tells
+-- the history that a log tells, which has no marks
 pub record IsHistoryOf (h : History) (l : Log) : Type 0 where
   pub plans : AreCopies h.plans l.started
   pub events : h.events ≡ l.events
+  pub begun : h.begun ≡ []
+  pub refused : h.refused ≡ []
 
 -- a good plan, whose operations are among so many
 pub record IsGoodFor (operations : ℕ) (p : Plan) : Type 0 where

@@ -27,12 +27,9 @@ pub fn plans_of(alloc: Global, log: &Log<'_>) -> Result<Vec<Plan>, AllocError>
 fn copied(alloc: Global, log: &Log<'_>) -> Result<History, AllocError>
     ensures { IfOk result (λ h. IsHistoryOf h log.now) }
 {
-    let plans = plans_of(alloc, log)?;
-    let events = log.events.as_slice().to_vec(alloc)?;
-    Ok(History {
-        plans: Plans::new(plans)?,
-        events: Events::new(events)?,
-    })
+    let plans = Plans::new(plans_of(alloc, log)?)?;
+    let events = Events::new(log.events.as_slice().to_vec(alloc)?)?;
+    History::unmarked(alloc, plans, events)
 }
 
 /// The history that a log tells.

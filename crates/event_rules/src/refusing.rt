@@ -107,7 +107,7 @@ fn history_of(alloc: Global, events: &[Event]) -> Result<History, AllocError>
 {
     let plans = Plans::new(Vec::new(alloc))?;
     let events = Events::new(events.to_vec(alloc)?)?;
-    Ok(History { plans, events })
+    History::unmarked(alloc, plans, events)
 }
 
 /// By which rule the first event of a history that may not come is refused, where the history is in own order: the first of the rules

@@ -40,7 +40,7 @@ fn an_undo_takes_its_step_away(rt: HostRuntime) {
     let alloc = rt.alloc();
     let plans = must(&rt, Plans::new(Vec::new(alloc)));
     let events = must(&rt, Events::new(must(&rt, EVENTS.to_vec(alloc))));
-    let history = History { plans, events };
+    let history = must(&rt, History::unmarked(alloc, plans, events));
     for (process, is) in [(1, false), (2, true), (3, false)] {
         assert_eq!(rt; active(&history, process), is);
     }

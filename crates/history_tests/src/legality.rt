@@ -155,7 +155,10 @@ fn history(rt: &impl Abort, alloc: Global, events: &[Event], key: u32) -> Histor
     let Ok(events) = Events::new(all) else {
         panic!(rt; "no memory");
     };
-    History { plans, events }
+    let Ok(history) = History::unmarked(alloc, plans, events) else {
+        panic!(rt; "no memory");
+    };
+    history
 }
 
 // The steps of the purchase, which is process 1, and of the sale, 2, and their undos.

@@ -113,7 +113,10 @@ fn history(rt: &impl Abort, alloc: Global, events: &[Event]) -> History
     let Ok(events) = Events::new(all) else {
         panic!(rt; "no memory");
     };
-    History { plans, events }
+    let Ok(history) = History::unmarked(alloc, plans, events) else {
+        panic!(rt; "no memory");
+    };
+    history
 }
 
 // The steps of the first order, and their undos.

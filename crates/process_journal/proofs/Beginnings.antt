@@ -61,6 +61,8 @@ beginning_is_good c h g k good is =
       allowed = and_from (is_legal table own g) (is_within_limits own g)
           (sym (is_legal-courses courses own table g (courses_in table h.plans g legal)) ∙ legal)
           (sym (limits_same courses own [] g (courses_in table h.plans g legal)) ∙ within);
+      begun = refl;
+      refused = refl;
     }
 
 -- the plans that are next behind some events

@@ -40,7 +40,7 @@ bodies_made c (records.End i) h after good is = ap (journal_bodies c) is ∙ ap 
 
 -- a journal may have no history
 pub none_is_good : (c : Catalog) → IsCatalog c → IsHistoryUnder c no_history
-none_is_good c is = record { catalog = is; plans = tt; one_each = refl; fits = tt; allowed = refl }
+none_is_good c is = record { catalog = is; plans = tt; one_each = refl; fits = tt; allowed = refl; begun = refl; refused = refl }
 
 -- what several records make of a history is one that a journal may have,
 pub are_good : (c : Catalog) (rs : List Record) (h after : History) → IsHistoryUnder c h → AreMadeBy c rs h after → IsHistoryUnder c after

@@ -24,6 +24,8 @@ with_other c h e good fits none allowed = record {
   one_each = good.one_each ∙ ap length (sym (starts-append h.events (e ∷ []) ∙ ap (λ is. starts h.events ++ is) none ∙ append-nil (starts h.events)));
   fits = Each-append FitsItsBytes h.events (e ∷ []) good.fits (fits, tt);
   allowed = allowed;
+  begun = good.begun;
+  refused = good.refused;
 }
 
 -- with a start
@@ -36,6 +38,8 @@ with_process c h i text p good own fits allowed =
       one_each = omega (arith, length-append h.plans (p ∷ []), ap length (starts-append h.events (Start i ∷ [])), length-append (starts h.events) (i ∷ []));
       fits = Each-append FitsItsBytes h.events (Start i ∷ []) good.fits (fits, tt);
       allowed = allowed;
+      begun = good.begun;
+      refused = good.refused;
     }
 
 pub records_make_histories : RecordsMakeHistories

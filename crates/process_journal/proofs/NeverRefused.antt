@@ -12,6 +12,7 @@ use Rattle.schedule_model.specs.Histories.{starts}
 use Rattle.schedule_model.specs.Laws.{plans_in}
 use Rattle.schedule_model.specs.Legal.{is_legal}
 use Rattle.schedule_model.specs.Limits.{is_within_limits}
+use Rattle.schedule_model.specs.Marks.{unmarked}
 use Rattle.schedule_model.proofs.Appends.{starts-append}
 use Rattle.schedule_model.proofs.Legal.{both-left}
 use Rattle.commute_table.specs.declared.catalog.Catalog.{Catalog}
@@ -71,7 +72,7 @@ next_made c h g (Start i) k good is =
     by (p ∷ later) split =
         let own = (beginning_is_good c h g (Start i ∷ k) good is).one_each in
         let under = (each_back (IsPlanUnder c) (plans_in h.plans g) (p ∷ later) (subst (Each (IsPlanUnder c)) split good.plans)).0 in
-        (p, under, ap (λ ps. record { plans = ps; events = g ++ Start i ∷ [] }) (plans_with h.plans g i p later own split))
+        (p, under, ap (λ ps. unmarked ps (g ++ Start i ∷ [])) (plans_with h.plans g i p later own split))
 next_made c h g (Act x) k good is =
     let plans = plans_kept h.plans g (Act x) refl in
     let longer = beginning_is_good c h (g ++ Act x ∷ []) k good (is ∙ sym (append_assoc g (Act x ∷ []) k)) in
@@ -79,9 +80,9 @@ next_made c h g (Act x) k good is =
     let legal = both-left (is_legal (do_conflict c.conflicts) courses (g ++ Act x ∷ [])) (is_within_limits courses (g ++ Act x ∷ [])) longer.allowed in
     let own = (each_back (DoesAsPlanned courses) g (Act x ∷ []) (all_as_planned (do_conflict c.conflicts) courses [] (g ++ Act x ∷ []) legal)).0 in
     let access = own ∙ ap (λ ps. access_at (courses_of ps) x.process x.step) plans in
-    ap (λ ps. record { plans = ps; events = g ++ Act x ∷ [] }) plans
-    ∙ ap (λ (a : Access). record { plans = plans_in h.plans g; events = g ++ Act (record { process = x.process; step = x.step; op = a.op; key = a.key; undo = x.undo }) ∷ [] }) access
-next_made c h g (End i) k good is = ap (λ ps. record { plans = ps; events = g ++ End i ∷ [] }) (plans_kept h.plans g (End i) refl)
+    ap (λ ps. unmarked ps (g ++ Act x ∷ [])) plans
+    ∙ ap (λ (a : Access). unmarked (plans_in h.plans g) (g ++ Act (record { process = x.process; step = x.step; op = a.op; key = a.key; undo = x.undo }) ∷ [])) access
+next_made c h g (End i) k good is = ap (λ ps. unmarked ps (g ++ End i ∷ [])) (plans_kept h.plans g (End i) refl)
 
 -- What is found where a journal is said to stop at a record: that record goes on with the history, as the journal does.
 record GoesOnThere (c : Catalog) (history : History) (body : List ℕ) : Type 0 where

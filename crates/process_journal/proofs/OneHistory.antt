@@ -89,7 +89,12 @@ same_history c h k one two same =
     let own = all_as_planned (do_conflict c.conflicts) (courses_of h.plans) [] h.events (legal_of c h one) in
     let others = all_as_planned (do_conflict c.conflicts) (courses_of h.plans) [] k.events
     (subst (λ cs. IsTrue (is_legal (do_conflict c.conflicts) cs k.events)) (sym courses) (legal_of c k two)) in
-    record { events = same_events (courses_of h.plans) h.events k.events own others events; plans = plans }
+    record {
+      events = same_events (courses_of h.plans) h.events k.events own others events;
+      plans = plans;
+      begun = one.begun ∙ sym two.begun;
+      refused = one.refused ∙ sym two.refused;
+    }
 
 -- the same bodies are of one catalog
 pub same_catalog : (c d : Catalog) (h k : History) → IsHistoryUnder c h → IsHistoryUnder d k → journal_bodies c h ≡ journal_bodies d k → d ≡ c

@@ -7,10 +7,13 @@ use Rattle.process_tree.proofs.Every.{Each-append}
 use Rattle.process_tree.specs.declared.plan.Plan.{Plan}
 use Rattle.schedule_model.specs.declared.event.Event.{Event}
 use Rattle.schedule_model.specs.declared.event.Event.TheVariants.{Start, Act, End}
+use Rattle.schedule_model.specs.declared.marks.Begun.{Begun}
+use Rattle.schedule_model.specs.declared.marks.RefusedStep.{RefusedStep}
 use Rattle.schedule_model.specs.Course.{courses_of}
 use Rattle.schedule_model.specs.Histories.{starts}
 use Rattle.schedule_model.specs.Legal.{is_legal, may_come}
 use Rattle.schedule_model.specs.Limits.{limits, starts_within, stands_within, is_within_limits}
+use Rattle.schedule_model.specs.Marks.{unmarked}
 use Rattle.schedule_model.proofs.Appends.{starts-append}
 use Rattle.schedule_model.proofs.Legal.{both-right, is_legal-push}
 use Rattle.history_judging.specs.Keeping.{Tables, IsJudged, HasPlan}
@@ -34,13 +37,13 @@ false_and true b is = absurd cc
 false_and false b is = refl
 
 -- where an event may not come, the history with it isn't allowed
-pub not_legal : (c : Catalog) (plans : List Plan) (h : List Event) (e : Event) → may_come (do_conflict c.conflicts) (courses_of plans) h e ≡ false → is_allowed c (record { plans = plans; events = h ++ e ∷ [] }) ≡ false
+pub not_legal : (c : Catalog) (plans : List Plan) (h : List Event) (e : Event) → may_come (do_conflict c.conflicts) (courses_of plans) h e ≡ false → is_allowed c (unmarked plans (h ++ e ∷ [])) ≡ false
 not_legal c plans h e never =
     false_and (is_legal (do_conflict c.conflicts) (courses_of plans) (h ++ e ∷ [])) (is_within_limits (courses_of plans) (h ++ e ∷ []))
     (is_legal-push (do_conflict c.conflicts) (courses_of plans) h e ∙ no_false (is_legal (do_conflict c.conflicts) (courses_of plans) h) (may_come (do_conflict c.conflicts) (courses_of plans) h e) never)
 
 -- nor where a start passes a limit
-pub not_within : (c : Catalog) (plans : List Plan) (h : List Event) (i : ℕ) → stands_within limits (courses_of plans) (h ++ Start i ∷ []) ≡ false → is_allowed c (record { plans = plans; events = h ++ Start i ∷ [] }) ≡ false
+pub not_within : (c : Catalog) (plans : List Plan) (h : List Event) (i : ℕ) → stands_within limits (courses_of plans) (h ++ Start i ∷ []) ≡ false → is_allowed c (unmarked plans (h ++ Start i ∷ [])) ≡ false
 not_within c plans h i beyond =
     no_false (is_legal (do_conflict c.conflicts) (courses_of plans) (h ++ Start i ∷ [])) (is_within_limits (courses_of plans) (h ++ Start i ∷ []))
     (limits-push (courses_of plans) h (Start i) ∙ no_false (is_within_limits (courses_of plans) h) (stands_within limits (courses_of plans) (h ++ Start i ∷ [])) beyond)
@@ -71,6 +74,8 @@ goes_on c r e t read other fits judged =
         fits = Each-append FitsItsBytes h (e ∷ []) read.history.fits (fits, tt);
         allowed = and_from (is_legal (do_conflict c.conflicts) (courses_of plans) (h ++ e ∷ [])) (is_within_limits (courses_of plans) (h ++ e ∷ [])) judged.legal
             (limits-push (courses_of plans) h e ∙ and_from (is_within_limits (courses_of plans) h) (starts_within limits (courses_of plans) h e) before (never_judged plans h e other));
+        begun = read.history.begun;
+        refused = read.history.refused;
       };
       judged = judged;
     }
@@ -109,6 +114,8 @@ module _ (c : Catalog) (r : Replay) (text : List ℕ) (p : Plan) (read : IsRepla
           fits = Each-append FitsItsBytes h (Start i ∷ []) read.history.fits (fits, tt);
           allowed = and_from (is_legal (do_conflict c.conflicts) (courses_of all) (h ++ Start i ∷ [])) (is_within_limits (courses_of all) (h ++ Start i ∷ [])) judged.legal
               (limits-push (courses_of all) h (Start i) ∙ and_from (is_within_limits (courses_of all) h) (stands_within limits (courses_of all) (h ++ Start i ∷ [])) grown within);
+          begun = read.history.begun;
+          refused = read.history.refused;
         };
         judged = judged;
       }
@@ -118,8 +125,9 @@ pub not_memory : Illegal ≡ NoMemory → ⊥
 not_memory is = cc
 
 -- a history that was read, told by equal lists
-pub replayed-alike : (c : Catalog) (plans more : List Plan) (h longer : List Event) (l : Tables) → more ≡ plans → longer ≡ h →
-    IsReplayed c (record { history = record { plans = plans; events = h }; legality = l }) → IsReplayed c (record { history = record { plans = more; events = longer }; legality = l })
-replayed-alike c plans more h longer l same_plans same_events read =
-    subst (λ ps. IsReplayed c (record { history = record { plans = ps; events = longer }; legality = l })) (sym same_plans)
-    (subst (λ es. IsReplayed c (record { history = record { plans = plans; events = es }; legality = l })) (sym same_events) read)
+pub replayed-alike : (c : Catalog) (plans more : List Plan) (h longer : List Event) (begun : List Begun) (refused : List RefusedStep) (l : Tables) → more ≡ plans → longer ≡ h →
+    IsReplayed c (record { history = record { plans = plans; events = h; begun = begun; refused = refused }; legality = l })
+    → IsReplayed c (record { history = record { plans = more; events = longer; begun = begun; refused = refused }; legality = l })
+replayed-alike c plans more h longer begun refused l same_plans same_events read =
+    subst (λ ps. IsReplayed c (record { history = record { plans = ps; events = longer; begun = begun; refused = refused }; legality = l })) (sym same_plans)
+    (subst (λ es. IsReplayed c (record { history = record { plans = plans; events = es; begun = begun; refused = refused }; legality = l })) (sym same_events) read)

@@ -4,6 +4,7 @@ use Rattle.process_tree.specs.declared.plan.Plan.{Plan}
 use Rattle.schedule_model.specs.declared.event.Event.{Event}
 use Rattle.schedule_model.specs.declared.event.Event.TheVariants.{Start, Act, End}
 use Rattle.schedule_model.specs.declared.history.History.{History}
+use Rattle.schedule_model.specs.Marks.{unmarked}
 use Rattle.commute_table.specs.declared.catalog.Catalog.{Catalog}
 use Rattle.commute_table.specs.Bytes.{bytes_of}
 use Rattle.journal_records.specs.Bytes.{setup_bytes, start_bytes, act_bytes, end_bytes}
@@ -37,12 +38,12 @@ journal_bodies c h = setup_bytes (bytes_of c) ∷ event_bodies h.plans h.events
 
 -- no process has started
 abbrev pub no_history : History
-no_history = record { plans = []; events = [] }
+no_history = unmarked [] []
 
 -- the same history with one event more
 abbrev pub with_event : History → Event → History
-with_event h e = record { plans = h.plans; events = h.events ++ e ∷ [] }
+with_event h e = record { plans = h.plans; events = h.events ++ e ∷ []; begun = h.begun; refused = h.refused }
 
 -- and with a start more, of a process of this plan
 abbrev pub with_start : History → ℕ → Plan → History
-with_start h i p = record { plans = h.plans ++ p ∷ []; events = h.events ++ Start i ∷ [] }
+with_start h i p = record { plans = h.plans ++ p ∷ []; events = h.events ++ Start i ∷ []; begun = h.begun; refused = h.refused }

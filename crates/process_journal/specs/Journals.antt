@@ -35,6 +35,9 @@ pub record IsHistoryUnder (c : Catalog) (h : History) : Type 0 where
   pub one_each : length h.plans ≡ length (starts h.events)
   pub fits : Each FitsItsBytes h.events
   pub allowed : IsTrue (is_allowed c h)
+  -- no marks are kept: nobody has begun to complete, and no step was refused
+  pub begun : h.begun ≡ []
+  pub refused : h.refused ≡ []
 
 -- what a record makes of a history; a setup makes nothing
 abbrev pub IsMadeBy : Catalog → Record → History → History → Type 0

@@ -5,6 +5,7 @@ use Rattle.process_tree.specs.Form.{AreEqualPlans}
 use Rattle.process_tree.specs.Conflicts.{operations_in}
 use Rattle.schedule_model.specs.declared.event.Event.{Event}
 use Rattle.schedule_model.specs.Laws.{IsPlanned, plans_in}
+use Rattle.schedule_model.specs.Marks.{unmarked}
 use Rattle.journal_records.specs.declared.record.Record.{Record}
 use Rattle.journal_records.specs.Laws.{FitsItsBytes}
 use Rattle.schedule_model.specs.declared.history.History.{History}
@@ -23,14 +24,16 @@ AreEqualInTurn [] (q ∷ qs) = ⊥
 AreEqualInTurn (p ∷ ps) [] = ⊥
 AreEqualInTurn (p ∷ ps) (q ∷ qs) = AreEqualPlans p q × AreEqualInTurn ps qs
 
--- the same events, of equal plans
+-- the same events, of equal plans, with the same marks
 pub record IsSameHistory (h k : History) : Type 0 where
   pub events : h.events ≡ k.events
   pub plans : AreEqualInTurn h.plans k.plans
+  pub begun : h.begun ≡ k.begun
+  pub refused : h.refused ≡ k.refused
 
--- the beginning of a history, with the plans of those that started in it
+-- the beginning of a history, with the plans of those that started in it, and no marks
 abbrev pub beginning : History → List Event → History
-beginning h g = record { plans = plans_in h.plans g; events = g }
+beginning h g = unmarked (plans_in h.plans g) g
 
 -- A file is the journal of one catalog and one history at most.
 abbrev pub OneHistoryAtMost : Type 0

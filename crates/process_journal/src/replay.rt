@@ -56,7 +56,7 @@ impl Replay {
     {
         let plans = Plans::new(Vec::new(alloc))?;
         let events = Events::new(Vec::new(alloc))?;
-        let history = History { plans, events };
+        let history = History::unmarked(alloc, plans, events)?;
         let legality = Legality::new(alloc);
         Ok(Replay { history, legality })
     }
@@ -79,13 +79,20 @@ impl Replay {
         fits_its_bytes(event);
         let plans = self.history.plans;
         let mut events = self.history.events;
+        let begun = self.history.begun;
+        let refused = self.history.refused;
         match self
             .legality
             .with_event(alloc, &catalog.conflicts, plans.as_slice(), event)
         {
             Ok(legality) => {
                 events.try_push(event)?;
-                let history = History { plans, events };
+                let history = History {
+                    plans,
+                    events,
+                    begun,
+                    refused,
+                };
                 Ok(Replay { history, legality })
             }
             Err(EventError::Illegal) => Err(JournalError::BadHistory(number)),
@@ -114,6 +121,8 @@ impl Replay {
         fits_its_bytes(event);
         let mut plans = self.history.plans;
         let mut events = self.history.events;
+        let begun = self.history.begun;
+        let refused = self.history.refused;
         plans.try_push(plan)?;
         match self
             .legality
@@ -124,7 +133,12 @@ impl Replay {
                     return Err(JournalError::BadHistory(number));
                 }
                 events.try_push(event)?;
-                let history = History { plans, events };
+                let history = History {
+                    plans,
+                    events,
+                    begun,
+                    refused,
+                };
                 Ok(Replay { history, legality })
             }
             Err(EventError::Illegal) => Err(JournalError::BadHistory(number)),

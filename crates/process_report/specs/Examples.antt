@@ -13,6 +13,7 @@ use Rattle.commute_table.specs.declared.catalog.Catalog.{Catalog}
 use Rattle.schedule_model.specs.declared.event.Event.{Event}
 use Rattle.schedule_model.specs.declared.event.Event.TheVariants.{Start, Act, End}
 use Rattle.schedule_model.specs.declared.history.History.{History}
+use Rattle.schedule_model.specs.Marks.{unmarked}
 use Rattle.schedule_model.specs.PlannedExample.{plain_step, two_steps}
 use Rattle.schedule_model.specs.declared.marks.Cause.TheVariants.{Abort, Cascade}
 use Rattle.machine_model.specs.declared.blocked.Rule.TheVariants.{A1, A3}
@@ -89,7 +90,7 @@ sale =
 
 -- one process, from its start to its end
 abbrev pub alone : History
-alone = record { plans = addition ∷ []; events = Start 1 ∷ did 1 0 0 ∷ End 1 ∷ [] }
+alone = unmarked (addition ∷ []) (Start 1 ∷ did 1 0 0 ∷ End 1 ∷ [])
 
 pub report_alone : report_text small alone [] ≡
     codes "conflicts\nhistory\nstart 1 a\ndo 1.x add\nend 1\ncompletion\nends\n1 a path x\ncauses\ntrace\nserial\ndo 1.x add\n"
@@ -101,10 +102,9 @@ stock_conflicts = codes "conflicts\nadd take\ntake take\nnote note\nbook book\n"
 
 -- side by side, and the delivery ended first
 abbrev pub side_by_side : History
-side_by_side = record {
-  plans = purchase ∷ delivery ∷ [];
-  events = Start 1 ∷ Start 2 ∷ did 1 0 0 ∷ did 2 0 0 ∷ did 2 1 3 ∷ did 1 1 2 ∷ End 2 ∷ End 1 ∷ [];
-}
+side_by_side = unmarked
+    (purchase ∷ delivery ∷ [])
+    (Start 1 ∷ Start 2 ∷ did 1 0 0 ∷ did 2 0 0 ∷ did 2 1 3 ∷ did 1 1 2 ∷ End 2 ∷ End 1 ∷ [])
 
 pub report_side_by_side : report_text stock side_by_side [] ≡
     stock_conflicts
@@ -116,10 +116,9 @@ report_side_by_side = refl
 
 -- the purchase was asked to complete, and the sale built on it
 abbrev pub both_undone : History
-both_undone = record {
-  plans = purchase ∷ sale ∷ [];
-  events = Start 1 ∷ Start 2 ∷ did 1 0 0 ∷ did 2 0 1 ∷ undid 2 0 1 ∷ undid 1 0 0 ∷ End 2 ∷ End 1 ∷ [];
-}
+both_undone = unmarked
+    (purchase ∷ sale ∷ [])
+    (Start 1 ∷ Start 2 ∷ did 1 0 0 ∷ did 2 0 1 ∷ undid 2 0 1 ∷ undid 1 0 0 ∷ End 2 ∷ End 1 ∷ [])
 
 pub report_both_undone : report_text stock both_undone ((1, Abort) ∷ (2, Cascade 1) ∷ []) ≡
     stock_conflicts
@@ -130,7 +129,7 @@ report_both_undone = refl
 
 -- cut off after its first step, which completion undoes
 abbrev pub cut_off : History
-cut_off = record { plans = purchase ∷ sale ∷ []; events = Start 1 ∷ Start 2 ∷ did 1 0 0 ∷ [] }
+cut_off = unmarked (purchase ∷ sale ∷ []) (Start 1 ∷ Start 2 ∷ did 1 0 0 ∷ [])
 
 pub report_cut_off : report_text stock cut_off [] ≡
     stock_conflicts

@@ -11,6 +11,7 @@ use Rattle.commute_table.specs.declared.catalog.Catalog.{Catalog}
 use Rattle.schedule_model.specs.declared.event.Event.{Event}
 use Rattle.schedule_model.specs.declared.event.Event.TheVariants.{Start, Act, End}
 use Rattle.schedule_model.specs.declared.history.History.{History}
+use Rattle.schedule_model.specs.Marks.{unmarked}
 use Rattle.schedule_model.specs.PlannedExample.{plain_step, two_steps}
 use Rattle.schedule_model.specs.declared.marks.Cause.TheVariants.{Abort}
 use Rattle.process_report.specs.Examples.{stock}
@@ -66,10 +67,9 @@ taken_and_shipped good = record {
 
 -- side by side, and the shipping ended first: takings of goods 7 and 9 change places
 abbrev pub two_goods : History
-two_goods = record {
-  plans = taken_at_a_till ∷ taken_and_shipped 9 ∷ [];
-  events = Start 1 ∷ Start 2 ∷ did_on 7 1 0 1 ∷ did_on 9 2 0 1 ∷ did_on 0 2 1 3 ∷ did_on 2 1 1 2 ∷ End 2 ∷ End 1 ∷ [];
-}
+two_goods = unmarked
+    (taken_at_a_till ∷ taken_and_shipped 9 ∷ [])
+    (Start 1 ∷ Start 2 ∷ did_on 7 1 0 1 ∷ did_on 9 2 0 1 ∷ did_on 0 2 1 3 ∷ did_on 2 1 1 2 ∷ End 2 ∷ End 1 ∷ [])
 
 pub report_two_goods : report_text goods two_goods [] ≡
     goods_conflicts
@@ -81,10 +81,9 @@ report_two_goods = refl
 
 -- the first was asked to complete: an undo has the key of its step
 abbrev pub one_taken_back : History
-one_taken_back = record {
-  plans = taken_at_a_till ∷ taken_and_shipped 9 ∷ [];
-  events = Start 1 ∷ Start 2 ∷ did_on 7 1 0 1 ∷ did_on 9 2 0 1 ∷ undid_on 7 1 0 1 ∷ did_on 0 2 1 3 ∷ End 1 ∷ End 2 ∷ [];
-}
+one_taken_back = unmarked
+    (taken_at_a_till ∷ taken_and_shipped 9 ∷ [])
+    (Start 1 ∷ Start 2 ∷ did_on 7 1 0 1 ∷ did_on 9 2 0 1 ∷ undid_on 7 1 0 1 ∷ did_on 0 2 1 3 ∷ End 1 ∷ End 2 ∷ [])
 
 pub report_one_taken_back : report_text goods one_taken_back ((1, Abort) ∷ []) ≡
     goods_conflicts
@@ -96,14 +95,13 @@ report_one_taken_back = refl
 
 -- cut off: what completion adds has the keys of the plan
 abbrev pub goods_cut_off : History
-goods_cut_off = record {
-  plans = taken_at_a_till ∷ record {
+goods_cut_off = unmarked
+    (taken_at_a_till ∷ record {
     name = codes "b";
     tree = two_steps (on_key 5 (plain_step P (codes "x") (codes "pay"))) (on_key 9 (plain_step R (codes "y") (codes "take")));
     ops = 2 ∷ 1 ∷ [];
-  } ∷ [];
-  events = Start 1 ∷ Start 2 ∷ did_on 7 1 0 1 ∷ did_on 5 2 0 2 ∷ [];
-}
+  } ∷ [])
+    (Start 1 ∷ Start 2 ∷ did_on 7 1 0 1 ∷ did_on 5 2 0 2 ∷ [])
 
 pub report_goods_cut_off : report_text goods goods_cut_off [] ≡
     goods_conflicts

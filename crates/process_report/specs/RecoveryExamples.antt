@@ -8,6 +8,7 @@ use Rattle.process_tree.specs.declared.block.Tail.{Tail, End as no_choice, Choic
 use Rattle.process_tree.specs.declared.plan.Plan.{Plan}
 use Rattle.schedule_model.specs.declared.event.Event.TheVariants.{Start, End}
 use Rattle.schedule_model.specs.declared.history.History.{History}
+use Rattle.schedule_model.specs.Marks.{unmarked}
 use Rattle.schedule_model.specs.PlannedExample.{plain_step, two_steps}
 use Rattle.schedule_model.specs.declared.marks.Cause.TheVariants.{Refused, Abort, Cascade, Victim, Restart}
 use Rattle.process_report.specs.Examples.{did, undid, stock, stock_conflicts}
@@ -54,10 +55,9 @@ order v three = record {
 -- the order took what the refill had added, which was asked to complete: both go back, and the order goes on by its last
 -- alternative
 abbrev pub by_another_way : (v : Vec (Unit {0}) Global) → v.len ≡ 3 → History
-by_another_way v three = record {
-  plans = refill ∷ order v three ∷ [];
-  events = Start 1 ∷ Start 2 ∷ did 2 0 2 ∷ did 1 0 0 ∷ did 2 1 1 ∷ undid 2 1 1 ∷ undid 1 0 0 ∷ did 2 4 3 ∷ End 1 ∷ End 2 ∷ [];
-}
+by_another_way v three = unmarked
+    (refill ∷ order v three ∷ [])
+    (Start 1 ∷ Start 2 ∷ did 2 0 2 ∷ did 1 0 0 ∷ did 2 1 1 ∷ undid 2 1 1 ∷ undid 1 0 0 ∷ did 2 4 3 ∷ End 1 ∷ End 2 ∷ [])
 
 pub report_by_another_way : (v : Vec (Unit {0}) Global) (three : v.len ≡ 3)
     → report_text stock (by_another_way v three) ((1, Abort) ∷ (2, Cascade 1) ∷ []) ≡
@@ -89,10 +89,9 @@ taken =
 
 -- each waits on the other, and the second is the victim
 abbrev pub crossed : History
-crossed = record {
-  plans = noted ∷ taken ∷ [];
-  events = Start 1 ∷ Start 2 ∷ did 1 0 0 ∷ did 2 0 4 ∷ undid 2 0 4 ∷ did 1 1 4 ∷ End 2 ∷ End 1 ∷ [];
-}
+crossed = unmarked
+    (noted ∷ taken ∷ [])
+    (Start 1 ∷ Start 2 ∷ did 1 0 0 ∷ did 2 0 4 ∷ undid 2 0 4 ∷ did 1 1 4 ∷ End 2 ∷ End 1 ∷ [])
 
 pub report_crossed : report_text stock crossed ((2, Victim) ∷ []) ≡
     stock_conflicts
@@ -103,15 +102,13 @@ report_crossed = refl
 
 -- a taking that was refused
 abbrev pub empty_handed : History
-empty_handed = record {
-  plans =
-      record {
+empty_handed = unmarked
+    (record {
         name = codes "a";
         tree = record { steps = plain_step C (codes "x") (codes "take") ∷ []; tail = no_choice };
         ops = 1 ∷ [];
-      } ∷ [];
-  events = Start 1 ∷ End 1 ∷ [];
-}
+      } ∷ [])
+    (Start 1 ∷ End 1 ∷ [])
 
 pub report_empty_handed : report_text stock empty_handed ((1, Refused 0) ∷ []) ≡
     stock_conflicts ++ codes "history\nstart 1 a\nend 1\ncompletion\nends\n1 a nothing\ncauses\n1 refused x\ntrace\nserial\n"
@@ -120,16 +117,14 @@ report_empty_handed = refl
 
 -- paid, and not shipped yet, which is still owed
 abbrev pub exhausted : History
-exhausted = record {
-  plans =
-      record {
+exhausted = unmarked
+    (record {
         name = codes "b";
         tree = two_steps (plain_step P (codes "x") (codes "pay"))
             (plain_step R (codes "y") (codes "ship"));
         ops = 2 ∷ 3 ∷ [];
-      } ∷ [];
-  events = Start 1 ∷ did 1 0 2 ∷ [];
-}
+      } ∷ [])
+    (Start 1 ∷ did 1 0 2 ∷ [])
 
 pub report_exhausted : report_text stock exhausted [] ≡
     stock_conflicts
@@ -155,10 +150,9 @@ listed name = record {
 
 -- one has paid, so its addition stays, and it owes its last step; the other hasn't, and its addition is undone
 abbrev pub paid_and_unpaid : History
-paid_and_unpaid = record {
-  plans = listed (codes "a") ∷ listed (codes "b") ∷ [];
-  events = Start 1 ∷ Start 2 ∷ did 1 0 0 ∷ did 1 1 2 ∷ did 2 0 0 ∷ [];
-}
+paid_and_unpaid = unmarked
+    (listed (codes "a") ∷ listed (codes "b") ∷ [])
+    (Start 1 ∷ Start 2 ∷ did 1 0 0 ∷ did 1 1 2 ∷ did 2 0 0 ∷ [])
 
 pub report_paid_and_unpaid : report_text stock paid_and_unpaid [] ≡
     stock_conflicts
@@ -170,15 +164,13 @@ report_paid_and_unpaid = refl
 
 -- two additions, both undone after a restart, the last first
 abbrev pub undone_after_a_restart : History
-undone_after_a_restart = record {
-  plans =
-      record {
+undone_after_a_restart = unmarked
+    (record {
         name = codes "a";
         tree = two_steps (plain_step C (codes "x") (codes "add")) (plain_step C (codes "z") (codes "add"));
         ops = 0 ∷ 0 ∷ [];
-      } ∷ [];
-  events = Start 1 ∷ did 1 0 0 ∷ did 1 1 0 ∷ undid 1 1 0 ∷ undid 1 0 0 ∷ End 1 ∷ [];
-}
+      } ∷ [])
+    (Start 1 ∷ did 1 0 0 ∷ did 1 1 0 ∷ undid 1 1 0 ∷ undid 1 0 0 ∷ End 1 ∷ [])
 
 pub report_undone_after_a_restart : report_text stock undone_after_a_restart ((1, Restart) ∷ []) ≡
     stock_conflicts

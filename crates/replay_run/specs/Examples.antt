@@ -11,6 +11,7 @@ use Rattle.process_tree.specs.declared.block.Tail.{End as no_choice}
 use Rattle.process_tree.specs.declared.plan.Plan.{Plan}
 use Rattle.schedule_model.specs.declared.event.Event.TheVariants.{Start, Act, End}
 use Rattle.schedule_model.specs.declared.history.History.{History}
+use Rattle.schedule_model.specs.Marks.{unmarked}
 use Rattle.commute_table.specs.declared.catalog.Catalog.{Catalog}
 use Rattle.commute_table.specs.declared.op.Op.{Op}
 use Rattle.commute_table.specs.declared.op.Verb.{Verb}
@@ -75,10 +76,9 @@ abbrev named : Catalog
 named = record { version = 2; ops = ops; conflicts = with_mode (with_mode (with_mode (no_conflicts 5) 0 1 Key) 1 1 Always) 4 4 Always }
 
 abbrev delivered : History
-delivered = record {
-  plans = plans;
-  events = Start 1 ∷ Start 2 ∷ Act (did 1 0 0) ∷ Act (did 2 0 0) ∷ Act (did 2 1 3) ∷ End 2 ∷ Act (did 1 1 2) ∷ End 1 ∷ [];
-}
+delivered = unmarked
+    plans
+    (Start 1 ∷ Start 2 ∷ Act (did 1 0 0) ∷ Act (did 2 0 0) ∷ Act (did 2 1 3) ∷ End 2 ∷ Act (did 1 1 2) ∷ End 1 ∷ [])
 
 replay_told : replay_text named delivered
     ≡ codes "serial\ndo 2.u add 1 7 was 0\ndo 2.v ship 1 1 was 0\ndo 1.x add 1 5 was 7\ndo 1.y pay 1 5 was 0\nvalues\n0 1 12\n1 1 5\n2 1 1\n"

@@ -49,5 +49,8 @@ pub fn two_goods(rt: &impl Abort, alloc: Global) -> History
     let Ok(events) = Events::new(events) else {
         panic!(rt; "no memory");
     };
-    History { plans, events }
+    let Ok(history) = History::unmarked(alloc, plans, events) else {
+        panic!(rt; "no memory");
+    };
+    history
 }

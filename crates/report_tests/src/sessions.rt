@@ -176,10 +176,9 @@ fn history(rt: &impl Abort, alloc: Global) -> History {
         };
         must(rt, plans.push(plan));
     }
-    History {
-        plans: must(rt, Plans::new(plans)),
-        events: must(rt, Events::new(Vec::new(alloc))),
-    }
+    let plans = must(rt, Plans::new(plans));
+    let events = must(rt, Events::new(Vec::new(alloc)));
+    must(rt, History::unmarked(alloc, plans, events))
 }
 
 // The answers of a session, and its lines.

@@ -1,5 +1,6 @@
 // Entries and plans, and a history of the shop: a purchase and a sale.
 ghost use Rattle.std.specs.Prelude.{◌≡◌, [], ◌∷◌, false, true};
+ghost use Rattle.schedule_model.specs.Marks.{unmarked};
 ghost use Rattle.schedule_model.specs.PlannedExample.{plain_step, purchase_plan, sale_plan, two_steps};
 ghost use Rattle.process_report.specs.Examples.{both_undone};
 ghost use Rattle.process_report.specs.KeyedExamples.{on_key};
@@ -148,7 +149,7 @@ fn sale(rt: &impl Abort, alloc: Global) -> Plan
 
 /// A purchase and a sale that builds on it, of which both are undone.
 pub fn both_undone(rt: &impl Abort, alloc: Global) -> History
-    ensures { result ≡ record { plans = purchase_plan ∷ sale_plan ∷ []; events = both_undone.events } }
+    ensures { result ≡ unmarked (purchase_plan ∷ sale_plan ∷ []) both_undone.events }
 {
     let Ok(plans) = vec![in alloc; purchase(rt, alloc), sale(rt, alloc)] else {
         panic!(rt; "no memory");
@@ -171,5 +172,8 @@ pub fn both_undone(rt: &impl Abort, alloc: Global) -> History
     let Ok(events) = Events::new(events) else {
         panic!(rt; "no memory");
     };
-    History { plans, events }
+    let Ok(history) = History::unmarked(alloc, plans, events) else {
+        panic!(rt; "no memory");
+    };
+    history
 }

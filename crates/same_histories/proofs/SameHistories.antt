@@ -66,17 +66,27 @@ take_alike (suc n) (p ∷ ps) (q ∷ qs) e = (e.0, take_alike n ps qs e.1)
 
 -- To be the same is an equivalence,
 pub same_itself : (h : History) → IsSameHistory h h
-same_itself h = record { events = refl; plans = plans_itself h.plans }
+same_itself h = record { events = refl; plans = plans_itself h.plans; begun = refl; refused = refl }
 
 pub same_turned : (h k : History) → IsSameHistory h k → IsSameHistory k h
-same_turned h k same = record { events = sym same.events; plans = plans_turned h.plans k.plans same.plans }
+same_turned h k same = record {
+  events = sym same.events;
+  plans = plans_turned h.plans k.plans same.plans;
+  begun = sym same.begun;
+  refused = sym same.refused;
+}
 
 pub same_through : (h k l : History) → IsSameHistory h k → IsSameHistory k l → IsSameHistory h l
-same_through h k l one two = record { events = one.events ∙ two.events; plans = plans_through h.plans k.plans l.plans one.plans two.plans }
+same_through h k l one two = record {
+  events = one.events ∙ two.events;
+  plans = plans_through h.plans k.plans l.plans one.plans two.plans;
+  begun = one.begun ∙ two.begun;
+  refused = one.refused ∙ two.refused;
+}
 
 -- and so are beginnings of it;
 pub same_beginnings : (h k : History) (g : List Event) → IsSameHistory h k → IsSameHistory (beginning h g) (beginning k g)
-same_beginnings h k g same = record { events = refl; plans = take_alike (length (starts g)) h.plans k.plans same.plans }
+same_beginnings h k g same = record { events = refl; plans = take_alike (length (starts g)) h.plans k.plans same.plans; begun = refl; refused = refl }
 
 -- it is completed to the same.
 pub same_completed : (h k : History) → IsSameHistory h k → completed_history h ≡ completed_history k
@@ -111,6 +121,8 @@ module _ (c : Catalog) (h k : History) (same : IsSameHistory h k) where
     one_each = sym (same_lengths h.plans k.plans same.plans) ∙ (under.one_each ∙ ap (λ es. length (starts es)) same.events);
     fits = subst (Each FitsItsBytes) same.events under.fits;
     allowed = subst IsTrue allowed under.allowed;
+    begun = sym same.begun ∙ under.begun;
+    refused = sym same.refused ∙ under.refused;
   }
 
 -- Its journal has the same bodies.

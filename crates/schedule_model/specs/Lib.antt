@@ -12,6 +12,7 @@ pub mod Legal
 pub mod Limits
 pub mod Reduction
 pub mod PrintedTrace
+pub mod Marks
 pub mod Laws
 pub mod Samples
 pub mod Examples

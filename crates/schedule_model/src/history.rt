@@ -1,5 +1,6 @@
 // Histories.
-ghost use Rattle.std.specs.Prelude.{◌≡◌, [], IfOk};
+ghost use Rattle.std.specs.Prelude.{◌≡◌, IfOk};
+ghost use Rattle.schedule_model.specs.Marks.{unmarked};
 
 use crate::{Beginnings, Events, MOST_PROCESSES, Preallocated, Refusals};
 use process_tree::Plan;
@@ -23,7 +24,7 @@ pub struct History {
 impl History {
     /// A history in which nobody has begun to complete, and no step was refused.
     pub fn unmarked(alloc: Global, plans: Plans, events: Events) -> Result<History, AllocError>
-        ensures { IfOk result (λ h. h ≡ record { plans = plans; events = events; begun = []; refused = [] }) }
+        ensures { IfOk result (λ h. h ≡ unmarked plans events) }
     {
         let begun = Beginnings::new(Vec::new(alloc))?;
         let refused = Refusals::new(Vec::new(alloc))?;

@@ -3,8 +3,7 @@ use Rattle.process_tree.specs.Conflicts.{do_conflict}
 use Rattle.schedule_model.specs.Course.{courses_of}
 use Rattle.schedule_model.specs.Legal.{may_come}
 use Rattle.history_judging.specs.Keeping.{IsJudged}
-use Rattle.process_journal.specs.Replays.{IsReplayed}
-use Rattle.process_journal.proofs.Replaying.{goes_on, not_legal, not_memory}
+use Rattle.process_journal.proofs.Replaying.{goes_on, not_legal, not_memory, replayed-alike}
 use Rattle.process_journal.proofs.replay.Replay.go_on.Goals as goal
 
 pub returns-in-Ok-clause-read : goal.returns-in-Ok-clause-read
@@ -17,7 +16,8 @@ returns-in-Ok-clause-read c =
     let judged = c.in-Ok.ensures.judged events (subst (λ ps. IsJudged table ps events c.args.self.legality) (sym lent) c.requires.read.judged) in
     let read = goes_on c.args.catalog.now c.args.self event c.in-Ok.legality c.requires.read c.requires.no_start c.fits_its_bytes.ensures
     (subst (λ ps. IsJudged table ps (events ++ event ∷ []) c.in-Ok.legality) lent judged) in
-    subst (λ es. IsReplayed c.args.catalog.now (record { history = record { plans = plans; events = es }; legality = c.in-Ok.legality })) (sym c.in_ok-try_push-in-Ok.ensures.pushed) read
+    let h = c.args.self.history in
+    replayed-alike c.args.catalog.now plans plans (events ++ event ∷ []) _ h.begun h.refused c.in-Ok.legality refl c.in_ok-try_push-in-Ok.ensures.pushed read
 
 pub returns-in-Err-Illegal-clause-refused : goal.returns-in-Err-Illegal-clause-refused
 returns-in-Err-Illegal-clause-refused c =

@@ -35,7 +35,7 @@ returns-in-Ok-clause-read c =
     let judged = subst (λ ps. IsJudged table ps (events ++ Start c.args.process ∷ []) c.in-Ok.legality) all (c.in-Ok.ensures.judged events before) in
     let within = sym (c.is_within_limits.ensures table plans (events ++ Start c.args.process ∷ []) judged) ∙ c.if-not-is_within_limits.false in
     let read = process_starts c.args.catalog.now c.args.self c.requires.plan.0 c.args.plan c.requires.read c.requires.plan.1 c.args.process c.in-Ok.legality c.fits_its_bytes.ensures judged within in
-    replayed-alike c.args.catalog.now plans _ (events ++ Start c.args.process ∷ []) _ c.in-Ok.legality c.in_ok-try_push.ensures.pushed c.in_ok-try_push-in-Ok.ensures.pushed read
+    replayed-alike c.args.catalog.now plans _ (events ++ Start c.args.process ∷ []) _ c.args.self.history.begun c.args.self.history.refused c.in-Ok.legality c.in_ok-try_push.ensures.pushed c.in_ok-try_push-in-Ok.ensures.pushed read
 
 pub returns-in-Err-Illegal-clause-refused : goal.returns-in-Err-Illegal-clause-refused
 returns-in-Err-Illegal-clause-refused c =
