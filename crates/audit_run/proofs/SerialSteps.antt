@@ -13,6 +13,7 @@ use Rattle.commute_table.specs.declared.catalog.Catalog.{Catalog}
 use Rattle.schedule_model.specs.Conflict.{ConflictRelation}
 use Rattle.schedule_model.specs.Course.{courses_of}
 use Rattle.schedule_model.specs.Laws.{IsPlanned}
+use Rattle.schedule_model.specs.Marks.{unmarked}
 use Rattle.schedule_model.specs.OwnOrder.{is_in_own_order}
 use Rattle.schedule_model.specs.Reduction.{AreReduced, is_out_of_place, is_serial, not_serial_from}
 use Rattle.schedule_model.proofs.Members.{Among, among-from_contains}
@@ -70,7 +71,7 @@ module _ (c : Catalog) (l : Log) (serial : Vec Entry Global) (good : IsCatalog c
   pub log_planned : IsPlanned (operations_in c.conflicts) l.started l.events
   log_planned =
       subst (λ n. IsPlanned n l.started l.events) (sym good.of_all)
-      (planned_of (length c.ops) (record { plans = l.started; events = l.events }) l (record { plans = own_copies l.started; events = refl }) sound)
+      (planned_of (length c.ops) (unmarked l.started l.events) l (record { plans = own_copies l.started; events = refl; begun = refl; refused = refl }) sound)
 
   pub log_ordered : IsTrue (is_in_own_order (courses_of l.started) l.events)
   log_ordered = in_own_order (courses_of l.started) l.events found.1
